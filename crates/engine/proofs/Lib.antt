@@ -1,0 +1,2 @@
+mod Negated
+pub mod Told

@@ -1,0 +1,15 @@
+pub mod Examples
+pub mod Lists
+pub mod Steps
+pub mod Rows
+pub mod Rests
+pub mod Widths
+pub mod Marks
+pub mod Signed
+pub mod Faithful
+pub mod Sections
+pub mod Opening
+pub mod Reading
+pub mod Refusals
+pub mod Known
+pub mod Places

@@ -1,0 +1,4 @@
+pub mod Lists
+pub mod Sheet
+pub mod Range
+pub mod Calls

@@ -1,0 +1,4 @@
+pub mod Machine
+mod Tests
+mod Rows
+pub mod Walks

@@ -1,0 +1,38 @@
+-- Two's complement as the code has it: the unsigned number, widened, less the whole, narrowed. Stated over both widths. Assumes nothing.
+use mathlib.Core.Path.{_≡_, sym, ap, _∙_}
+use Prim.Native.Nat.{ℕ, suc, _+_, _-_, _^_, _<_, _≤_}
+use native.Mathlib.Omega.{arith}
+use lib.IntN.{ℤ, pos, negsuc, _-ℤ_}
+use mir.Syntax.{Width}
+use mir.Val.{SFits, toZ, ofZ, hbits}
+use mir.ValLaws.{toZ-pos, toZ-ofZ}
+use Rattle.model.specs.Sheet.{signed}
+use Rattle.model.proofs.Signed.{Signed, less, signed-low, signed-high, signed-in}
+
+-- what is stored is read back
+pub stored : (w : Width) (half n : ℕ) → half ≡ 2 ^ hbits w → n < half + half → toZ w (ofZ w (signed half n)) ≡ signed half n
+stored w half n e h = toZ-ofZ w (signed half n) (fits (signed half n) (signed-in half n h))
+  where
+    fits : (z : ℤ) → Signed half z → SFits w z
+    fits (pos m) g = record { sfits = omega arith }
+    fits (negsuc m) g = record { sfits = omega arith }
+
+module _ (w wide : Width) (half n : ℕ) (whole : half ≡ 2 ^ hbits w) (fits : half + half < 2 ^ hbits wide) where
+  pub low-half : n < half → toZ w n ≡ signed half n
+  low-half h = toZ-pos w n (omega arith) ∙ sym (signed-low half n h)
+
+  module _ (h : half ≤ n) (g : n < half + half) where
+    difference : toZ wide n -ℤ pos (half + half) ≡ negsuc (half + half - suc n)
+    difference = ap (λ z. z -ℤ pos (half + half)) (toZ-pos wide n (omega arith)) ∙ less n (half + half) g
+
+    pub high-fits : SFits wide (toZ wide n -ℤ pos (half + half))
+    high-fits = rw difference (record { sfits = omega arith })
+
+    back : toZ wide (ofZ wide (toZ wide n -ℤ pos (half + half))) ≡ negsuc (half + half - suc n)
+    back = toZ-ofZ wide _ high-fits ∙ difference
+
+    pub high-narrows : SFits w (toZ wide (ofZ wide (toZ wide n -ℤ pos (half + half))))
+    high-narrows = rw back (record { sfits = omega arith })
+
+    pub high-half : toZ w (ofZ w (toZ wide (ofZ wide (toZ wide n -ℤ pos (half + half))))) ≡ signed half n
+    high-half = toZ-ofZ w _ high-narrows ∙ back ∙ sym (signed-high half n h g)
