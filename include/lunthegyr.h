@@ -26,6 +26,33 @@ extern "C" {
  */
 int64_t tpl_read(const uint8_t *sheet, size_t n, uint64_t counts[4]);
 
+/* A filling gives each field a text. It is 9 bytes per field, in the order of the fields: the text's length, at most the field's limit,
+ * then eight places. They hold letter numbers (the first letter of the sheet is 0), and 255 past the length. Of a sheet without fields
+ * the filling is empty.
+ */
+
+/* Checks the m bytes of a filling. Returns 1 for a clash: in every pair both templates spell the same text, and every rule holds.
+ * Returns 0 for no clash; or minus the number of the first refusal, which is one of tpl_read's, or else:
+ *   20 not 9 bytes per field
+ * or else, of the first field that is at fault:
+ *   21 length above the limit
+ *   22 a letter number that is not below the letter count
+ *   23 a place past the length that is not 255
+ */
+int64_t tpl_check(const uint8_t *sheet, size_t n, const uint8_t *filling, size_t m);
+
+/* Spells one template under a filling, in the sheet's letters, into a buffer of cap bytes. Pairs count from 0; side 0 is the left
+ * template and side 1 the right one; both may be any numbers. Returns the text's length, with the text in the first bytes of the buffer
+ * and the later ones unchanged. No zero byte is added. The text has at most 24 bytes, so a buffer of 24 is always long enough.
+ * Or it returns minus the number of the first refusal, which is one of tpl_read's, or else, in this order:
+ *   24 no pair has this number
+ *   25 side not 0 or 1
+ *   20 to 23 as in tpl_check
+ *   26 buffer shorter than the text
+ */
+int64_t tpl_spell(const uint8_t *sheet, size_t n, uint64_t pair, uint64_t side, const uint8_t *filling, size_t m, uint8_t *text,
+                  size_t cap);
+
 #ifdef __cplusplus
 }
 #endif

@@ -1,24 +1,63 @@
-/* include/lunthegyr.h against the static library: document 01's sheet P is read, its 16th byte is refused with 9, and the counts are
- * unchanged by a refusal. */
+/* include/lunthegyr.h against the static library: each call on document 01's sheet P, with an answer and with refusals, which change
+ * nothing that was lent. */
 #include <stdio.h>
+#include <string.h>
 #include "lunthegyr.h"
 
+/* P has the first 15 bytes. */
 static const uint8_t sheet[16] = { 'T', 'P', 'L', 0, 1, 1, 1, 1, 0, 'A', 1, 1, 1, 128, 0, 0 };
+static const uint8_t is_a[9] = { 1, 0, 255, 255, 255, 255, 255, 255, 255 };
+static const uint8_t is_empty[9] = { 0, 255, 255, 255, 255, 255, 255, 255, 255 };
+static const uint8_t too_long[9] = { 2, 0, 0, 255, 255, 255, 255, 255, 255 };
+
+static int all_passed = 1;
+
+static void expect(int holds, const char *what) {
+    if (!holds) {
+        printf("C header: FAILED: %s\n", what);
+        all_passed = 0;
+    }
+}
 
 static int is(const uint64_t *counts, uint64_t l, uint64_t v, uint64_t e, uint64_t r) {
     return counts[0] == l && counts[1] == v && counts[2] == e && counts[3] == r;
 }
 
-int main(void) {
+static void reading(void) {
     uint64_t counts[4] = { 5, 6, 7, 8 };
-    if (tpl_read(sheet, 16, counts) != -9 || !is(counts, 5, 6, 7, 8)) {
-        puts("C header: a 16th byte on P is not refused with 9, or the counts changed");
+    expect(tpl_read(sheet, 16, counts) == -9, "a 16th byte on P is refused with 9");
+    expect(is(counts, 5, 6, 7, 8), "a refusal leaves the counts");
+    expect(tpl_read(sheet, 15, counts) == 0, "P is read");
+    expect(is(counts, 1, 1, 1, 0), "P's counts are 1 1 1 0");
+}
+
+static void checking(void) {
+    expect(tpl_check(sheet, 15, is_a, 9) == 1, "X=A clashes in P");
+    expect(tpl_check(sheet, 15, is_empty, 9) == 0, "an empty X does not clash in P");
+    expect(tpl_check(sheet, 16, is_a, 9) == -9, "checking reads the sheet first");
+    expect(tpl_check(sheet, 15, is_a, 8) == -20, "eight bytes for one field are refused with 20");
+    expect(tpl_check(sheet, 15, too_long, 9) == -21, "a length of 2 for a limit of 1 is refused with 21");
+}
+
+static void spelling(void) {
+    uint8_t text[24];
+    memset(text, '.', sizeof text);
+    expect(tpl_spell(sheet, 15, 1, 0, is_a, 9, text, 24) == -24, "pair 1 of P is refused with 24");
+    expect(tpl_spell(sheet, 15, 0, UINT64_MAX, is_a, 9, text, 24) == -25, "a side that is not 0 or 1 is refused with 25");
+    expect(tpl_spell(sheet, 15, 0, 0, is_a, 9, text, 0) == -26, "a buffer of no bytes is refused with 26");
+    expect(memcmp(text, "........................", sizeof text) == 0, "a refusal leaves the text");
+    expect(tpl_spell(sheet, 15, 0, 0, is_empty, 9, text, 0) == 0, "an empty text fits in no bytes");
+    expect(tpl_spell(sheet, 15, 0, 0, is_a, 9, text, 24) == 1, "X=A has length 1");
+    expect(text[0] == 'A' && text[1] == '.', "X=A is spelled A, and the next byte stays");
+}
+
+int main(void) {
+    reading();
+    checking();
+    spelling();
+    if (!all_passed) {
         return 1;
     }
-    if (tpl_read(sheet, 15, counts) != 0 || !is(counts, 1, 1, 1, 0)) {
-        puts("C header: P is not read as 1 1 1 0");
-        return 1;
-    }
-    puts("C header: P and its 16th byte answered as they must be");
+    puts("C header: the three calls answer as they must on P");
     return 0;
 }

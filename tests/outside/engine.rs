@@ -1,29 +1,43 @@
 //! The calls of the static library under test, each wrapped so that everything a call may change is
 //! looked at after it.
 
+use crate::lent::Lent;
+use crate::speller::Spelling;
 use std::fmt;
 
 extern "C" {
     /// Answers 0 and the counts L, V, E and R, or minus the refusal's number and no counts.
     fn tpl_read(sheet: *const u8, n: usize, counts: *mut u64) -> i64;
+
+    /// Answers 1 for a clash, 0 for none, or minus the refusal's number.
+    fn tpl_check(sheet: *const u8, n: usize, filling: *const u8, m: usize) -> i64;
+
+    /// Answers the text's length and the text, or minus the refusal's number and no text.
+    fn tpl_spell(
+        sheet: *const u8,
+        n: usize,
+        pair: u64,
+        side: u64,
+        filling: *const u8,
+        m: usize,
+        text: *mut u8,
+        cap: usize,
+    ) -> i64;
 }
 
-/// What one call of `tpl_read` answered and left behind.
+/// What one call answered and left behind.
 #[derive(PartialEq)]
-pub struct Read {
+pub struct Outcome<T> {
     pub status: i64,
-    pub counts: [u64; 4],
-    /// The sheet, and all that lies around the sheet and the counts, is as it was.
+    /// All that the call may write to, as it is after the call.
+    pub lent: Vec<T>,
+    /// All else that was lent, and all that lies around what was lent, is as it was.
     pub rest_unchanged: bool,
 }
 
-impl fmt::Display for Read {
+impl<T: fmt::Debug> fmt::Display for Outcome<T> {
     fn fmt(&self, out: &mut fmt::Formatter) -> fmt::Result {
-        write!(out, "{}, counts ", self.status)?;
-        match self.counts {
-            UNTOUCHED => write!(out, "untouched")?,
-            counts => write!(out, "{counts:?}")?,
-        }
+        write!(out, "{}, leaving {:02X?}", self.status, self.lent)?;
         if !self.rest_unchanged {
             write!(out, ", and other lent or near bytes changed")?;
         }
@@ -32,33 +46,92 @@ impl fmt::Display for Read {
 }
 
 /// What the counts hold before a call.
-pub const UNTOUCHED: [u64; 4] = [
+pub const COUNTS_BEFORE: [u64; 4] = [
     u64::MAX,
     0xA5A5_A5A5_A5A5_A5A5,
     0x5A5A_5A5A_5A5A_5A5A,
     1 << 63,
 ];
 
-/// Bytes on both sides of a lent sheet. They are 0, which the format allows nearly everywhere, so
-/// that a call that reads past the end is likely to give a wrong answer.
-const MARGIN: usize = 16;
+/// What a text buffer of `room` bytes holds before a call: no letter, and never one byte twice in
+/// a row.
+pub fn text_before(room: usize) -> Vec<u8> {
+    (0..room).map(|place| 128 + (place % 125) as u8).collect()
+}
+
+/// The byte after a sheet is 0 and the one after a filling is 255. The format allows these nearly
+/// everywhere, so that a call that reads past the end is likely to give a wrong answer.
+const SHEET_MARGIN: [u8; 16] = margin(0);
+const FILLING_MARGIN: [u8; 16] = margin(255);
+/// Without letters, so that a letter written past the end shows.
+const TEXT_MARGIN: [u8; 16] = margin(165);
+const COUNTS_MARGIN: [u64; 2] = [0, 0xC3C3_C3C3_C3C3_C3C3];
+
+/// Sixteen bytes, no two the same.
+const fn margin(first: u8) -> [u8; 16] {
+    let mut margin = [first; 16];
+    let mut place = 1;
+    while place < margin.len() {
+        margin[place] = margin[place - 1].wrapping_add(5);
+        place += 1;
+    }
+    margin
+}
 
 /// Calls `tpl_read` on a copy of `sheet`.
-pub fn read(sheet: &[u8]) -> Read {
-    let margin = [0u8; MARGIN];
-    let before = [&margin[..], sheet, &margin[..]].concat();
-    let mut lent = before.clone();
-    let mut frame = [0u64; 6];
-    frame[1..5].copy_from_slice(&UNTOUCHED);
+pub fn read(sheet: &[u8]) -> Outcome<u64> {
+    let mut bytes = Lent::new(sheet, &SHEET_MARGIN);
+    let mut counts = Lent::new(&COUNTS_BEFORE, &COUNTS_MARGIN);
     // The pointers lead to `sheet.len()` bytes and to four numbers.
-    let status = unsafe {
-        let bytes = lent.as_mut_ptr().add(MARGIN);
-        let counts = frame.as_mut_ptr().add(1);
-        tpl_read(bytes, sheet.len(), counts)
-    };
-    Read {
+    let status = unsafe { tpl_read(bytes.pointer(), sheet.len(), counts.pointer()) };
+    Outcome {
         status,
-        counts: [frame[1], frame[2], frame[3], frame[4]],
-        rest_unchanged: lent == before && frame[0] == 0 && frame[5] == 0,
+        lent: counts.content().to_vec(),
+        rest_unchanged: bytes.unchanged() && counts.margins_unchanged(),
+    }
+}
+
+/// Calls `tpl_check` on copies of `sheet` and `filling`. It may write nothing.
+pub fn check(sheet: &[u8], filling: &[u8]) -> Outcome<u8> {
+    let mut bytes = Lent::new(sheet, &SHEET_MARGIN);
+    let mut fields = Lent::new(filling, &FILLING_MARGIN);
+    // The pointers lead to `sheet.len()` and `filling.len()` bytes.
+    let status = unsafe {
+        tpl_check(
+            bytes.pointer(),
+            sheet.len(),
+            fields.pointer(),
+            filling.len(),
+        )
+    };
+    Outcome {
+        status,
+        lent: Vec::new(),
+        rest_unchanged: bytes.unchanged() && fields.unchanged(),
+    }
+}
+
+/// Calls `tpl_spell` on copies of the sheet and the filling.
+pub fn spell(asked: Spelling) -> Outcome<u8> {
+    let mut bytes = Lent::new(asked.sheet, &SHEET_MARGIN);
+    let mut fields = Lent::new(asked.filling, &FILLING_MARGIN);
+    let mut text = Lent::new(&text_before(asked.room), &TEXT_MARGIN);
+    // The pointers lead to as many bytes as the number after each says.
+    let status = unsafe {
+        tpl_spell(
+            bytes.pointer(),
+            asked.sheet.len(),
+            asked.pair,
+            asked.side,
+            fields.pointer(),
+            asked.filling.len(),
+            text.pointer(),
+            asked.room,
+        )
+    };
+    Outcome {
+        status,
+        lent: text.content().to_vec(),
+        rest_unchanged: bytes.unchanged() && fields.unchanged() && text.margins_unchanged(),
     }
 }

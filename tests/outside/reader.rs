@@ -1,25 +1,7 @@
 //! A plain reader of sheets, version 1, written from document 01 alone ("The sheet", "Reading").
 //! The library's answers are compared with it. It knows nothing of the library.
 
-/// Why a sheet is refused, with document 01's numbers.
-#[derive(Clone, Copy, Debug, PartialEq)]
-pub enum Refusal {
-    UnderNineBytes = 1,
-    Mark = 2,
-    Version = 3,
-    LetterCount = 4,
-    FieldCount = 5,
-    PairCount = 6,
-    RuleCount = 7,
-    ByteMissing = 8,
-    BytesLeftOver = 9,
-    Letter = 10,
-    Limit = 11,
-    SymbolCount = 12,
-    Symbol = 13,
-    Width = 14,
-    Coefficient = 15,
-}
+use crate::refusal::Refusal;
 
 /// An accepted sheet.
 #[derive(Clone, Debug, PartialEq)]
@@ -76,6 +58,11 @@ impl Sheet {
             self.rules.len() as u64,
         ]
     }
+}
+
+/// Reads a sheet that is known to be accepted.
+pub fn accepted(sheet: &[u8]) -> Sheet {
+    read(sheet).expect("an accepted sheet")
 }
 
 /// Reads a whole sheet, or answers the first refusal in document 01's order.

@@ -7,6 +7,10 @@ use crate::reader::*;
 /// Document 01's sheet P: one field of limit 1 against the letter A.
 pub const P: &[u8] = b"TPL\x00\x01\x01\x01\x01\x00A\x01\x01\x01\x80\x00";
 
+/// A sheet of middle size: letters A and B, fields of limits 8 and 3, two pairs and a rule.
+pub const MIDDLE: &[u8] = b"TPL\0\x01\x02\x02\x02\x01AB\x08\x03\
+    \x04\x01\x80\x81\0\x80\x81\x01\x02\x81\0\x01\xFC\x04\xFF\xFE";
+
 /// Values at and beside the ends of the format's ranges.
 const EDGES: [u8; 23] = [
     0, 1, 4, 5, 6, 7, 8, 9, 12, 13, 32, 33, 126, 127, 128, 133, 134, 0xFA, 0xFB, 0xFC, 0xFD, 0xFE,
@@ -43,6 +47,15 @@ fn symbol_byte(symbol: &Symbol) -> u8 {
     }
 }
 
+/// How large a sheet is to be.
+struct Size {
+    /// Of letters, fields, pairs and rules.
+    counts: [usize; 4],
+    greatest_limit: u8,
+    /// Of a template, the least and the most.
+    symbols: [usize; 2],
+}
+
 /// A valid sheet; about one in eight is as large as a sheet can be.
 pub fn valid(random: &mut Random) -> Sheet {
     if random.chance(12) {
@@ -52,17 +65,40 @@ pub fn valid(random: &mut Random) -> Sheet {
     let v = count(random, 0, MOST_FIELDS);
     let e = count(random, 1, MOST_PAIRS);
     let r = count(random, 0, MOST_RULES);
-    sheet_of(random, [l, v, e, r], 0)
+    let size = Size {
+        counts: [l, v, e, r],
+        greatest_limit: GREATEST_LIMIT,
+        symbols: [0, MOST_SYMBOLS],
+    };
+    sheet_of(random, &size)
 }
 
 /// A valid sheet with every count at its greatest: 159 bytes.
 pub fn largest(random: &mut Random) -> Sheet {
-    let counts = [MOST_LETTERS, MOST_FIELDS, MOST_PAIRS, MOST_RULES];
-    sheet_of(random, counts, MOST_SYMBOLS)
+    let size = Size {
+        counts: [MOST_LETTERS, MOST_FIELDS, MOST_PAIRS, MOST_RULES],
+        greatest_limit: GREATEST_LIMIT,
+        symbols: [MOST_SYMBOLS, MOST_SYMBOLS],
+    };
+    sheet_of(random, &size)
+}
+
+/// A valid sheet with at most 2197 fillings.
+pub fn small(random: &mut Random) -> Sheet {
+    let l = random.within(1, 3);
+    let v = random.within(0, 3);
+    let e = random.within(1, 3);
+    let r = random.within(0, 2);
+    let size = Size {
+        counts: [l, v, e, r],
+        greatest_limit: 2,
+        symbols: [0, 4],
+    };
+    sheet_of(random, &size)
 }
 
 /// A number from `least` to `most`, often one of the two.
-fn count(random: &mut Random, least: usize, most: usize) -> usize {
+pub fn count(random: &mut Random, least: usize, most: usize) -> usize {
     if random.chance(30) {
         random.one_of(&[least, most])
     } else {
@@ -70,12 +106,19 @@ fn count(random: &mut Random, least: usize, most: usize) -> usize {
     }
 }
 
-/// A valid sheet of these counts, whose templates have `least_symbols` or more.
-fn sheet_of(random: &mut Random, counts: [usize; 4], least_symbols: usize) -> Sheet {
-    let [l, v, e, r] = counts;
+/// A valid sheet of this size.
+fn sheet_of(random: &mut Random, size: &Size) -> Sheet {
+    let [l, v, e, r] = size.counts;
     let letters = letters(random, l);
-    let limits: Vec<u8> = (0..v).map(|_| limit(random)).collect();
-    let side = |random: &mut Random| template(random, l, &limits, least_symbols);
+    let greatest_limit = usize::from(size.greatest_limit);
+    let limits: Vec<u8> = (0..v)
+        .map(|_| count(random, 0, greatest_limit) as u8)
+        .collect();
+    let [least, most] = size.symbols;
+    let side = |random: &mut Random| {
+        let symbols = count(random, least, most);
+        template(random, symbols, l, &limits)
+    };
     let pairs = (0..e)
         .map(|_| Pair {
             left: side(random),
@@ -109,13 +152,8 @@ fn letters(random: &mut Random, l: usize) -> Vec<u8> {
     chosen
 }
 
-fn limit(random: &mut Random) -> u8 {
-    count(random, 0, usize::from(GREATEST_LIMIT)) as u8
-}
-
-/// A template of `least_symbols` to 12 symbols and a width of at most 24, often just 24.
-fn template(random: &mut Random, l: usize, limits: &[u8], least_symbols: usize) -> Template {
-    let symbols = count(random, least_symbols, MOST_SYMBOLS);
+/// A template of this many symbols and a width of at most 24, often just 24.
+fn template(random: &mut Random, symbols: usize, l: usize, limits: &[u8]) -> Template {
     let mut template = Vec::new();
     for to_come in (0..symbols).rev() {
         // Room for a letter is kept for each symbol to come, so that the width never ends above 24.

@@ -2,7 +2,7 @@
 use mathlib.Core.Path.{_≡_, ap, _∙_}
 use Prim.Native.Nat.{ℕ, zero, suc, _<_}
 use native.Mathlib.Omega.{arith}
-use lib.IntN.{pos, negℤ, _-ℤ_, +ℤ-idl}
+use lib.IntN.{ℤ, pos, negℤ, _-ℤ_, +ℤ-idl}
 use mir.Syntax.{w64}
 use mir.Val.{SFits, toZ, ofZ}
 use mir.ValLaws.{toZ-pos, toZ-ofZ}
@@ -23,3 +23,7 @@ module _ (n : ℕ) (small : n < 256) where
 
   pub minus-is : toZ w64 (ofZ w64 (pos 0 -ℤ toZ w64 n)) ≡ negℤ (pos n)
   minus-is = rw difference minus-stored
+
+-- a refusal's number, negated and handed over
+pub minus-told : {n k : ℕ} {r : ℤ} → k ≡ n → (r ≡ negℤ (pos k)) × (k < 256) → toZ w64 (ofZ w64 r) ≡ negℤ (pos n)
+minus-told {n} {k} e h = rw (h .0, e) (minus-stored n (omega (arith, h .1)))

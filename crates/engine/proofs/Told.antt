@@ -1,14 +1,20 @@
--- What the number that `tpl_read` returns tells its caller: 0 for an accepted sheet and for no other. Assumes nothing.
-use mathlib.Core.Path.{_≡_, refl, ap}
-use mathlib.Core.List.{List}
+-- What the numbers that the calls return tell their callers: 0 of `tpl_read` is for an accepted sheet and no other, 1 of `tpl_check` for a
+-- filling that solves its sheet and no other, 0 for one that does not, and a number of `tpl_spell` from 0 on is a text's length. Assumes
+-- nothing.
+use mathlib.Core.Path.{_≡_, refl, sym, ap, _∙_}
+use mathlib.Core.List.{List, [], _∷_}
 use Prim.Native.Nat.{ℕ, zero, suc, _≤_}
 use native.Mathlib.Omega.{arith}
-use lib.IntN.{pos}
-use Rattle.model.specs.Calls.{Answer, refused, finished, reading}
-use Rattle.model.specs.Sheet.{Accepted}
+use lib.IntN.{pos, negℤ}
+use lib.ListN.{length}
+use Rattle.model.specs.Calls.{Answer, refused, finished, reading, checking, spelling, sized}
+use Rattle.model.specs.Lists.{Bytes}
+use Rattle.model.specs.Sheet.{Accepted, sheetOf}
+use Rattle.model.specs.Word.{Substitution, Solves}
 use Rattle.model.proofs.Known.{reading-accepted, reading-counts}
-use Rattle.model.proofs.Refusals.{refusal-numbers}
-use Rattle.engine.specs.Returned.{returned}
+use Rattle.model.proofs.Refusals.{refusal-numbers, checking-cases, spelling-refused}
+use Rattle.model.proofs.Passed.{FillingOf, answered, passed-solves, solves-passed}
+use Rattle.engine.specs.Returned.{returned, returnedNumber}
 
 record Finished (a : Answer) : Type 0 where
   values : List ℕ
@@ -24,3 +30,71 @@ zero-accepted b e = reading-accepted b (zero-finished (reading b) (λ n k. refus
 
 pub accepted-zero : (b : List ℕ) → Accepted b → returned (reading b) ≡ pos 0
 accepted-zero b h = ap returned (reading-counts b h)
+
+-- `tpl_check`: 1 for a clash, 0 for none, and both for nothing else
+negative : {P : Type 0} {v : ℕ} (n : ℕ) → 1 ≤ n → negℤ (pos n) ≡ pos v → P
+negative zero h e = absurd (omega arith)
+negative (suc n) h e = let z : _≡_ {A = ℕ} 0 1 = cc in absurd (omega arith)
+
+pos-equal : {a c : ℕ} → pos a ≡ pos c → a ≡ c
+pos-equal e = cc
+
+pub one-clash : (b m : List ℕ) → returnedNumber (checking b m) ≡ pos 1 → checking b m ≡ finished (1 ∷ [])
+one-clash b m e =
+    checking-cases b m (λ c. c)
+    (λ c. let z : _≡_ {A = ℕ} 0 1 = pos-equal (sym (ap returnedNumber c) ∙ e) in absurd (omega arith))
+    (λ n c h. negative n h (sym (ap returnedNumber c) ∙ e))
+
+pub zero-none : (b m : List ℕ) → returnedNumber (checking b m) ≡ pos 0 → checking b m ≡ finished (0 ∷ [])
+zero-none b m e =
+    checking-cases b m
+    (λ c. let z : _≡_ {A = ℕ} 1 0 = pos-equal (sym (ap returnedNumber c) ∙ e) in absurd (omega arith))
+    (λ c. c)
+    (λ n c h. negative n h (sym (ap returnedNumber c) ∙ e))
+
+-- over `Solves`, both ways
+pub record Solved (b m : List ℕ) : Type 0 where
+  pub substitution : Substitution
+  pub is-filling : FillingOf b m substitution
+  pub solves : Solves (sheetOf b) substitution
+
+pub one-solves : (b m : List ℕ) → Bytes b → returnedNumber (checking b m) ≡ pos 1 → Solved b m
+one-solves b m y e =
+    let c = one-clash b m e in
+    let a = answered b m y c in
+    record { substitution = a .substitution; is-filling = a .is-filling; solves = passed-solves b m y (a .substitution) (a .is-filling) c }
+
+pub solves-one : (b m : List ℕ) → Bytes b → Solved b m → returnedNumber (checking b m) ≡ pos 1
+solves-one b m y h = ap returnedNumber (solves-passed b m y (h .substitution) (h .is-filling) (h .solves))
+
+pub record NotSolved (b m : List ℕ) : Type 0 where
+  pub substitution : Substitution
+  pub is-filling : FillingOf b m substitution
+  pub fails : Solves (sheetOf b) substitution → ⊥
+
+pub zero-fails : (b m : List ℕ) → Bytes b → returnedNumber (checking b m) ≡ pos 0 → NotSolved b m
+zero-fails b m y e =
+    let c = zero-none b m e in
+    let a = answered b m y c in
+    record {
+      substitution = a .substitution;
+      is-filling = a .is-filling;
+      fails = λ h. let z : _≡_ {A = ℕ} 1 0 = pos-equal (sym (ap returnedNumber (solves-passed b m y (a .substitution) (a .is-filling) h)) ∙ e) in absurd (omega arith);
+    }
+
+-- `tpl_spell`: a number of 0 or more is the length of a text that was spelled
+pub record Sized (a : Answer) (n : ℕ) : Type 0 where
+  pub text : List ℕ
+  pub is : a ≡ finished text
+  pub count : length text ≡ n
+
+pub sized-finished : (a : Answer) {n : ℕ} → sized a ≡ finished (n ∷ []) → Sized a n
+sized-finished (refused k) e = let z : _≡_ {A = ℕ} 0 1 = cc in absurd (omega arith)
+sized-finished (finished values) e = record { text = values; is = refl; count = cc }
+
+pub length-spelled : (b : List ℕ) (p side : ℕ) (m : List ℕ) (room n : ℕ) → returnedNumber (sized (spelling b p side m room)) ≡ pos n → Sized (spelling b p side m room) n
+length-spelled b p side m room n e = by-answer (spelling b p side m room) (spelling-refused b p side m room) e
+  where
+    by-answer : (a : Answer) → ((k : ℕ) → a ≡ refused k → 1 ≤ k) → returnedNumber (sized a) ≡ pos n → Sized a n
+    by-answer (refused k) h e = negative k (h k refl) e
+    by-answer (finished values) h e = record { text = values; is = refl; count = pos-equal e }

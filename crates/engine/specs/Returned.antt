@@ -1,8 +1,9 @@
 -- An answer as a call for C hands it over: the number returned, and what an array that is lent to it holds afterwards.
-use mathlib.Core.List.{List}
+use mathlib.Core.Path.{_≡_}
+use mathlib.Core.List.{List, [], _∷_}
 use Prim.Native.Nat.{ℕ}
 use lib.IntN.{ℤ, pos, negℤ}
-use Rattle.model.specs.Calls.{Answer, refused, finished}
+use Rattle.model.specs.Calls.{Answer, refused, finished, sized, written}
 
 -- minus the refusal's number; 0 for a call whose values go to a lent array
 abbrev pub returned : Answer → ℤ
@@ -13,3 +14,13 @@ returned (finished values) = pos 0
 abbrev pub lentAfter : Answer → List ℕ → List ℕ
 lentAfter (refused n) before = before
 lentAfter (finished values) before = values
+
+-- minus the refusal's number; else the answer, of a call that answers one number
+abbrev pub returnedNumber : Answer → ℤ
+returnedNumber (refused n) = negℤ (pos n)
+returnedNumber (finished []) = pos 0
+returnedNumber (finished (n ∷ others)) = pos n
+
+-- a call that writes the answer's values into a lent buffer, and returns their number
+abbrev pub Handed : Answer → List ℕ → ℤ → List ℕ → Type 0
+Handed a before r after = (r ≡ returnedNumber (sized a)) × (after ≡ written a before)

@@ -3,8 +3,9 @@
 ghost use mathlib.Core.Path.{_≡_};
 ghost use Prim.Native.Nat.{_<_};
 ghost use lib.IntN.{pos, negℤ};
-ghost use Rattle.model.specs.Calls.{reading};
-ghost use Rattle.engine.specs.Returned.{returned, lentAfter};
+ghost use lib.ListN.{length};
+ghost use Rattle.model.specs.Calls.{reading, checking, spelling};
+ghost use Rattle.engine.specs.Returned.{returned, lentAfter, returnedNumber, Handed};
 
 // Reads a sheet of any bytes. Returns 0, with its four counts (letters, fields, pairs, rules) in `counts`; or minus
 // document 01's number of the first refusal, with `counts` as it was.
@@ -22,6 +23,36 @@ pub extern "C" fn tpl_read(sheet: &[u8], counts: &mut [u64; 4]) -> i64
             *counts = [letters, fields, equations, constraints];
             0
         }
+    }
+}
+
+// Checks a filling, of any bytes. Returns 1 for a clash, 0 for none; or minus document 01's number of the first refusal.
+#[no_mangle]
+pub extern "C" fn tpl_check(sheet: &[u8], filling: &[u8]) -> i64
+    ensures { λ r. ⌜ r ≡ returnedNumber (checking (now (sheet .entry)) (now (filling .entry))) ⌝ }
+{
+    match substitution::check(sheet, filling) {
+        substitution::Checking::Solves => 1,
+        substitution::Checking::DoesNot => 0,
+        substitution::Checking::Refused(refusal) => minus(substitution::number(refusal)),
+    }
+}
+
+// Spells one template under a filling, into `text`: of a pair the left one for side 0, the right one for side 1. Returns the text's
+// length, with later bytes as they were; or minus document 01's number of the first refusal, with all bytes as they were.
+#[no_mangle]
+pub extern "C" fn tpl_spell(
+    sheet: &[u8],
+    pair: u64,
+    side: u64,
+    filling: &[u8],
+    text: &mut [u8],
+) -> i64
+    ensures { λ r. ⌜ Handed (spelling (now (sheet .entry)) pair side (now (filling .entry)) (length (now (text .entry)))) (now (text .entry)) r (now (text .exit)) ⌝ }
+{
+    match substitution::spell(sheet, pair as usize, side as usize, filling, text) {
+        substitution::Spelling::Length(n) => n as i64,
+        substitution::Spelling::Refused(refusal) => minus(substitution::number(refusal)),
     }
 }
 

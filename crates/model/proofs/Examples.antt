@@ -1,102 +1,111 @@
--- Reading, computed. Two sheets read in full, the second with parts that differ from each other: what stands where. And damaged sheets,
--- most with two faults at once, with the refusal that is given: the order of the refusals. Assumes nothing.
+-- Document 01's proved examples (a) to (k) as one list: sheets as bytes, what is claimed of each, and one computed test over the list.
+-- Shown.antt turns the test into the statements. Assumes nothing.
 use mathlib.Core.Path.{_≡_, refl}
-use mathlib.Core.List.{List, [], _∷_, _++_, map}
-use Prim.Native.Nat.{ℕ}
-use Rattle.model.specs.Lists.{startsWith}
-use lib.IntN.{pos, negsuc}
-use Rattle.model.specs.Sheet.{letter, field, mark, row, times, sides, anEquation, aConstraint, walk, width, signed, opening, accepted, refused, read}
+use mathlib.Core.Bool.{Bool, true, false, not, _&&_, _||_}
+use mathlib.Core.List.{List, [], _∷_, map}
+use Prim.Native.Nat.{ℕ, zero, suc}
+use lib.Dec.{leb, ltb}
+use lib.ListN.{length}
+use Rattle.model.specs.Lists.{startsWith, same, each, from, upTo, all}
+use Rattle.model.specs.Sheet.{Sheet, equation, row, times, sides, anEquation, aConstraint, walk, width, signed, opening, read, isAccepted, sheetIn}
+use Rattle.model.specs.Word.{Substitution, letterBytes, spell, weight, sameWord, equationHolds, constraintHolds, keeps, solves}
+use Rattle.model.proofs.Computed.{sheet}
 
--- a sheet of version 1 from its four counts on
-abbrev pub sheet : ℕ → ℕ → ℕ → ℕ → List ℕ → List ℕ
-sheet l v e r xs = mark ++ (0 ∷ 1 ∷ l ∷ v ∷ e ∷ r ∷ xs)
+-- What is claimed of a sheet: that a substitution clashes; that it alone does; that it is legal and does not; that none does; that both
+-- sides of the first pair spell these letter bytes under it.
+pub data Claim : Type 0 where
+  clashes : Substitution → Claim
+  only : Substitution → Claim
+  doesNot : Substitution → Claim
+  apart : Claim
+  spells : Substitution → List ℕ → Claim
 
--- document 01's sheet P: "one field X of limit 1 against A"
-pub read-P : read (sheet 1 1 1 0 (65 ∷ 1 ∷ 1 ∷ 1 ∷ 128 ∷ 0 ∷ [])) ≡ accepted (record
-    { letters = 65 ∷ []; limits = 1 ∷ []; equations = record { left = field 0 ∷ []; right = letter 0 ∷ [] } ∷ []; constraints = [] })
-unfolding startsWith row times sides anEquation aConstraint walk width signed opening read
-read-P = refl
-
--- two letters, two fields, two equations, two constraints
-abbrev pub parts : List ℕ
-parts =
-    sheet 2 2 2 2
-    (65 ∷ 66
-    ∷ 2 ∷ 1
-    ∷ 3 ∷ 1 ∷ 128 ∷ 0 ∷ 129 ∷ 1
-    ∷ 0 ∷ 1 ∷ 129
-    ∷ 252 ∷ 3 ∷ 255 ∷ 254
-    ∷ 0 ∷ 4 ∷ 1 ∷ 2
-    ∷ [])
-
-pub read-in-full : read parts ≡ accepted (record {
-  letters = 65 ∷ 66 ∷ [];
-  limits = 2 ∷ 1 ∷ [];
-  equations =
-      record { left = field 0 ∷ letter 0 ∷ field 1 ∷ []; right = letter 1 ∷ [] }
-      ∷ record { left = []; right = field 1 ∷ [] }
-      ∷ [];
-  constraints =
-      record { coefficients = negsuc 3 ∷ pos 3 ∷ []; most = negsuc 1 }
-      ∷ record { coefficients = pos 0 ∷ pos 4 ∷ []; most = pos 258 }
-      ∷ [];
-})
-unfolding startsWith row times sides anEquation aConstraint walk width signed opening read
-read-in-full = refl
-
--- a damaged sheet and its first refusal
-pub record Case : Type 0 where
+pub record Example : Type 0 where
   pub bytes : List ℕ
-  pub first : ℕ
+  pub claim : Claim
 
-abbrev pub _gives_ : List ℕ → ℕ → Case
-_gives_ b n = record { bytes = b; first = n }
+abbrev pub _shows_ : List ℕ → Claim → Example
+_shows_ b k = record { bytes = b; claim = k }
 
-infix 5 _gives_
-abbrev pub damaged : List Case
-damaged =
-    -- the header: each fault before the next
-    (84 ∷ 80 ∷ 77 ∷ 0 ∷ 2 ∷ [] gives 1)
-    ∷ (84 ∷ 80 ∷ 77 ∷ 0 ∷ 2 ∷ 1 ∷ 0 ∷ 1 ∷ 0 ∷ [] gives 2)
-    ∷ (84 ∷ 80 ∷ 76 ∷ 1 ∷ 1 ∷ 0 ∷ 0 ∷ 1 ∷ 0 ∷ [] gives 3)
-    ∷ (sheet 9 7 1 0 [] gives 4)
-    ∷ (sheet 1 7 0 0 [] gives 5)
-    ∷ (sheet 1 0 5 5 [] gives 6)
-    ∷ (sheet 1 0 1 5 [] gives 7)
-    ∷ (sheet 0 0 1 0 (0 ∷ 0 ∷ []) gives 4)
-    ∷ (sheet 1 0 0 0 (65 ∷ []) gives 6)
-    -- a byte that is missing, and one that is out of range before it: of the letters, the limits, the symbols, the coefficients
-    ∷ (sheet 1 0 1 0 [] gives 8)
-    ∷ (sheet 2 0 1 0 (127 ∷ []) gives 10)
-    ∷ (sheet 2 0 1 0 (32 ∷ []) gives 10)
-    ∷ (sheet 1 2 1 0 (65 ∷ 9 ∷ []) gives 11)
-    ∷ (sheet 1 0 1 0 (65 ∷ 1 ∷ 1 ∷ 1 ∷ []) gives 13)
-    ∷ (sheet 1 2 1 1 (65 ∷ 1 ∷ 1 ∷ 0 ∷ 0 ∷ 5 ∷ []) gives 15)
-    -- letters that do not rise, and a limit
-    ∷ (sheet 2 1 1 0 (65 ∷ 65 ∷ 9 ∷ 0 ∷ 0 ∷ []) gives 10)
-    ∷ (sheet 2 0 1 0 (66 ∷ 65 ∷ 0 ∷ 0 ∷ []) gives 10)
-    -- a limit and a symbol count
-    ∷ (sheet 1 1 1 0 (65 ∷ 9 ∷ 13 ∷ 0 ∷ []) gives 11)
-    -- a left count, and no right count; a right count, and a left symbol
-    ∷ (sheet 1 0 1 0 (65 ∷ 13 ∷ []) gives 12)
-    ∷ (sheet 1 0 1 0 (65 ∷ 1 ∷ 13 ∷ 1 ∷ []) gives 12)
-    -- a symbol, and bytes left over
-    ∷ (sheet 1 1 1 0 (65 ∷ 1 ∷ 1 ∷ 0 ∷ 129 ∷ 0 ∷ []) gives 13)
-    -- a left side that is too wide, with a right symbol that is bad, then missing, then good; and with a bad count in the next equation
-    ∷ (sheet 1 1 1 0 (65 ∷ 8 ∷ 4 ∷ 1 ∷ 128 ∷ 128 ∷ 128 ∷ 0 ∷ 1 ∷ []) gives 13)
-    ∷ (sheet 1 1 1 0 (65 ∷ 8 ∷ 4 ∷ 1 ∷ 128 ∷ 128 ∷ 128 ∷ 0 ∷ []) gives 8)
-    ∷ (sheet 1 1 1 0 (65 ∷ 8 ∷ 4 ∷ 1 ∷ 128 ∷ 128 ∷ 128 ∷ 0 ∷ 0 ∷ []) gives 14)
-    ∷ (sheet 1 1 2 0 (65 ∷ 8 ∷ 4 ∷ 0 ∷ 128 ∷ 128 ∷ 128 ∷ 0 ∷ 13 ∷ 0 ∷ []) gives 14)
-    -- a right side that is too wide, and a coefficient
-    ∷ (sheet 1 1 1 1 (65 ∷ 8 ∷ 0 ∷ 4 ∷ 128 ∷ 128 ∷ 128 ∷ 0 ∷ 251 ∷ 0 ∷ 0 ∷ []) gives 14)
-    -- a coefficient, and half of the constraint's limit; then that half alone
-    ∷ (sheet 1 1 1 1 (65 ∷ 1 ∷ 0 ∷ 0 ∷ 251 ∷ 0 ∷ []) gives 15)
-    ∷ (sheet 1 1 1 1 (65 ∷ 1 ∷ 0 ∷ 0 ∷ 252 ∷ 0 ∷ []) gives 8)
-    -- a coefficient, and bytes left over; then those alone, on sheet P
-    ∷ (sheet 1 1 1 1 (65 ∷ 1 ∷ 0 ∷ 0 ∷ 5 ∷ 0 ∷ 0 ∷ 0 ∷ []) gives 15)
-    ∷ (sheet 1 1 1 0 (65 ∷ 1 ∷ 1 ∷ 1 ∷ 128 ∷ 0 ∷ 0 ∷ []) gives 9)
+infix 5 _shows_
+-- AX against XA over A and B, with r rules
+abbrev AX-XA : ℕ → List ℕ → List ℕ
+AX-XA r rules = sheet 2 1 1 r (65 ∷ 66 ∷ 1 ∷ 2 ∷ 2 ∷ 0 ∷ 128 ∷ 128 ∷ 0 ∷ rules)
+
+-- XabY against aXYb over a and b
+abbrev XabY-aXYb : List ℕ
+XabY-aXYb = sheet 2 2 1 0 (97 ∷ 98 ∷ 1 ∷ 1 ∷ 4 ∷ 4 ∷ 128 ∷ 0 ∷ 1 ∷ 129 ∷ 0 ∷ 128 ∷ 129 ∷ 1 ∷ [])
+
+abbrev pub listed : List Example
+listed =
+    -- (a) P clashes with X=A only
+    (sheet 1 1 1 0 (65 ∷ 1 ∷ 1 ∷ 1 ∷ 128 ∷ 0 ∷ []) shows only ((0 ∷ []) ∷ []))
+    -- (b) P with limit 0 is apart
+    ∷ (sheet 1 1 1 0 (65 ∷ 0 ∷ 1 ∷ 1 ∷ 128 ∷ 0 ∷ []) shows apart)
+    -- (c) no fields, both templates empty: clash
+    ∷ (sheet 1 0 1 0 (65 ∷ 0 ∷ 0 ∷ []) shows clashes [])
+    -- (d) XX against A, limit 1: apart
+    ∷ (sheet 1 1 1 0 (65 ∷ 1 ∷ 2 ∷ 1 ∷ 128 ∷ 128 ∷ 0 ∷ []) shows apart)
+    -- (e) AX against XA, letters A B, limit 1: empty and A clash, B does not
+    ∷ (AX-XA 0 [] shows clashes ([] ∷ []))
+    ∷ (AX-XA 0 [] shows clashes ((0 ∷ []) ∷ []))
+    ∷ (AX-XA 0 [] shows doesNot ((1 ∷ []) ∷ []))
+    -- (f) as (e) with -1 × length at most -1: only A
+    ∷ (AX-XA 1 (255 ∷ 255 ∷ 255 ∷ []) shows only ((0 ∷ []) ∷ []))
+    -- (g) the same with at most -2: apart
+    ∷ (AX-XA 1 (255 ∷ 255 ∷ 254 ∷ []) shows apart)
+    -- (h) pairs X,A and X,B: apart
+    ∷ (sheet 2 1 2 0 (65 ∷ 66 ∷ 1 ∷ 1 ∷ 1 ∷ 128 ∷ 0 ∷ 1 ∷ 1 ∷ 128 ∷ 1 ∷ []) shows apart)
+    -- (i) XabY, aXYb with X=a, Y=b spells aabb
+    ∷ (XabY-aXYb shows clashes ((0 ∷ []) ∷ (1 ∷ []) ∷ []))
+    ∷ (XabY-aXYb shows spells ((0 ∷ []) ∷ (1 ∷ []) ∷ []) (97 ∷ 97 ∷ 98 ∷ 98 ∷ []))
+    -- (j) aZXb, aXaY with Z=a, X=a, Y=b; the fields are X, Y, Z
+    ∷ (sheet 2 3 1 0 (97 ∷ 98 ∷ 1 ∷ 1 ∷ 1 ∷ 4 ∷ 4 ∷ 0 ∷ 130 ∷ 128 ∷ 1 ∷ 0 ∷ 128 ∷ 0 ∷ 129 ∷ []) shows clashes ((0 ∷ []) ∷ (1 ∷ []) ∷ (0 ∷ []) ∷ []))
+    -- (k) aXaY, aZXb with X empty, Y=b, Z=a
+    ∷ (sheet 2 3 1 0 (97 ∷ 98 ∷ 1 ∷ 1 ∷ 1 ∷ 4 ∷ 4 ∷ 0 ∷ 128 ∷ 0 ∷ 129 ∷ 0 ∷ 130 ∷ 128 ∷ 1 ∷ []) shows clashes ([] ∷ (1 ∷ []) ∷ (0 ∷ []) ∷ []))
     ∷ []
 
-pub first-refusals : map (λ (c : Case). read (c .bytes)) damaged ≡ map (λ (c : Case). refused (c .first)) damaged
-unfolding startsWith row times sides anEquation aConstraint walk width signed opening read
-first-refusals = refl
+-- Every text of at most n of l letters, and every legal substitution.
+unfoldable pub allTexts : ℕ → ℕ → List (List ℕ)
+allTexts l zero = [] ∷ []
+allTexts l (suc n) = [] ∷ each (upTo l) (λ a. map (λ t. a ∷ t) (allTexts l n))
+
+unfoldable pub substitutions : ℕ → List ℕ → List Substitution
+substitutions l [] = [] ∷ []
+substitutions l (n ∷ ns) = each (allTexts l n) (λ t. map (λ g. t ∷ g) (substitutions l ns))
+
+abbrev pub everyLegal : Sheet → List Substitution
+everyLegal s = substitutions (length (s .letters)) (s .limits)
+
+-- The tests.
+unfoldable pub legalTexts : ℕ → List ℕ → Substitution → Bool
+legalTexts l [] [] = true
+legalTexts l [] (t ∷ g) = false
+legalTexts l (n ∷ ns) [] = false
+legalTexts l (n ∷ ns) (t ∷ g) = leb (length t) n && (all (λ a. ltb a l) t && legalTexts l ns g)
+
+unfoldable pub sameTexts : Substitution → Substitution → Bool
+sameTexts [] [] = true
+sameTexts [] (t ∷ g) = false
+sameTexts (t ∷ g) [] = false
+sameTexts (t ∷ g) (u ∷ h) = same t u && sameTexts g h
+
+abbrev pub legalIn : Sheet → Substitution → Bool
+legalIn s g = legalTexts (length (s .letters)) (s .limits) g
+
+abbrev pub clashesIn : Sheet → Substitution → Bool
+clashesIn s g = legalIn s g && solves s g
+
+abbrev pub test : Sheet → Claim → Bool
+test s (clashes g) = clashesIn s g
+test s (only g) = clashesIn s g && all (λ h. not (solves s h) || sameTexts h g) (everyLegal s)
+test s (doesNot g) = legalIn s g && not (solves s g)
+test s apart = all (λ h. not (solves s h)) (everyLegal s)
+test s (spells g w) = same (letterBytes s (spell g (equation s 0 .left))) w && same (letterBytes s (spell g (equation s 0 .right))) w
+
+abbrev pub passesTest : Example → Bool
+passesTest c = isAccepted (read (c .bytes)) && test (sheetIn (read (c .bytes))) (c .claim)
+
+pub tests-pass : all passesTest listed ≡ true
+unfolding startsWith row times sides anEquation aConstraint walk width signed opening read each from all allTexts substitutions legalTexts sameTexts same spell weight sameWord equationHolds constraintHolds keeps solves
+tests-pass = refl

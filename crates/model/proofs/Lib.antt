@@ -1,3 +1,5 @@
+pub mod Computed
+pub mod Answers
 pub mod Examples
 pub mod Lists
 pub mod Steps
@@ -13,3 +15,13 @@ pub mod Reading
 pub mod Refusals
 pub mod Known
 pub mod Places
+pub mod Seams
+pub mod Words
+pub mod Values
+pub mod Shown
+pub mod Sums
+pub mod Templates
+pub mod Operations
+pub mod Fillings
+pub mod Passed
+pub mod Letters

@@ -1,11 +1,17 @@
 -- Laws of specs/Lists: tests, and what holds of every element. Assumes nothing.
-use mathlib.Core.Path.{_≡_, refl}
+use mathlib.Core.Path.{_≡_, refl, sym, ap, subst, _∙_}
 use mathlib.Core.Bool.{Bool, true, false, _&&_, _||_}
-use mathlib.Core.List.{List, [], _∷_, _++_, map}
-use Prim.Native.Nat.{ℕ, zero, suc, _<_}
+use mathlib.Core.List.{List, [], _∷_, _++_, map, append-assoc, append-nil}
+use Prim.Native.Nat.{ℕ, zero, suc, _+_, _*_, _<_, _≤_}
+use native.Mathlib.Nat.{suc-mul}
+use native.Mathlib.Numerals.{add-one}
 use native.Mathlib.Omega.{arith}
-use lib.ListN.{length, getD}
-use Rattle.model.specs.Lists.{All}
+use lib.Arith.{lt-of-le-ne}
+use lib.Dec.{eqb}
+use lib.ListN.{length, getD, drop, drop-of-length-le, length-append}
+use lib.Seq.{drop-cons}
+use borrow.Author.Tests.{eqb-true, eqb-false, eq-eqb, ne-eqb}
+use Rattle.model.specs.Lists.{same, each, from, upTo, All, all}
 
 pub never : {P : Type 0} → false ≡ true → P
 never e = let z : _≡_ {A = ℕ} 0 1 = cc in absurd (omega arith)
@@ -21,6 +27,14 @@ and-split false b e = never e
 pub and-join : {a b : Bool} → a ≡ true → b ≡ true → (a && b) ≡ true
 and-join p q = rw (p, q)
 
+and-false : (a : Bool) {b : Bool} → b ≡ false → (a && b) ≡ false
+and-false true e = e
+and-false false e = refl
+
+pub and-true : (a : Bool) → (a && true) ≡ a
+and-true true = refl
+and-true false = refl
+
 pub or-left : {a : Bool} (b : Bool) → a ≡ true → (a || b) ≡ true
 or-left b e = rw e
 
@@ -31,6 +45,47 @@ or-right false e = e
 pub or-cases : {P : Type 0} (a b : Bool) → (a || b) ≡ true → (a ≡ true → P) → (b ≡ true → P) → P
 or-cases true b h f g = f refl
 or-cases false b h f g = g h
+
+-- Two lists are equal exactly when the test passes.
+pub same-equal : (xs ys : List ℕ) → same xs ys ≡ true → xs ≡ ys
+unfolding same
+same-equal [] [] h = refl
+same-equal [] (y ∷ ys) h = never h
+same-equal (x ∷ xs) [] h = never h
+same-equal (x ∷ xs) (y ∷ ys) h =
+    let r = and-split (eqb x y) (same xs ys) h in
+    let e = eqb-true x y (r .0) in
+    let es = same-equal xs ys (r .1) in
+    cc
+
+pub equal-same : (xs ys : List ℕ) → xs ≡ ys → same xs ys ≡ true
+unfolding same
+equal-same xs ys h = subst (λ zs. same xs zs ≡ true) h (itself xs)
+  where
+    itself : (zs : List ℕ) → same zs zs ≡ true
+    itself [] = refl
+    itself (z ∷ zs) = and-join (eq-eqb z z refl) (itself zs)
+
+-- Lists of other lengths differ; others are compared from index i on, one element at a time.
+pub other-length : (xs ys : List ℕ) → (length xs ≡ length ys → ⊥) → same xs ys ≡ false
+unfolding same
+other-length [] [] h = absurd (h refl)
+other-length [] (y ∷ ys) h = refl
+other-length (x ∷ xs) [] h = refl
+other-length (x ∷ xs) (y ∷ ys) h = and-false (eqb x y) (other-length xs ys (λ e. h (ap suc e)))
+
+module _ (xs ys : List ℕ) (i : ℕ) where
+  pub same-here : i < length xs → i < length ys → getD xs i 0 ≡ getD ys i 0 → same (drop i xs) (drop i ys) ≡ same (drop (i + 1) xs) (drop (i + 1) ys)
+  unfolding same
+  same-here a b e = rw (add-one, drop-cons xs i 0, drop-cons ys i 0) (simp (eq-eqb _ _ e))
+
+  pub differs-here : i < length xs → i < length ys → (getD xs i 0 ≡ getD ys i 0 → ⊥) → same (drop i xs) (drop i ys) ≡ false
+  unfolding same
+  differs-here a b e = rw (drop-cons xs i 0, drop-cons ys i 0) (simp (ne-eqb _ _ e))
+
+  pub same-whole : length xs ≤ i → length ys ≤ i → same (drop i xs) (drop i ys) ≡ true
+  unfolding same
+  same-whole a b = rw (drop-of-length-le xs a, drop-of-length-le ys b)
 
 module _ {A : Type 0} (P : A → Type 0) where
   pub append-out : (xs ys : List A) → All P (xs ++ ys) → All P xs × All P ys
@@ -64,3 +119,101 @@ module _ {A : Type 0} (P : A → Type 0) where
   unfolding All
   map-back f g [] e h = refl
   map-back f g (x ∷ xs) e h = rw (e x (h .0), map-back f g xs e (h .1))
+
+-- P of every element of several lists put together
+module _ {A : Type 0} (P : A → Type 0) where
+  pub append-in : (xs ys : List A) → All P xs → All P ys → All P (xs ++ ys)
+  unfolding All
+  append-in [] ys h k = k
+  append-in (x ∷ xs) ys h k = (h .0, append-in xs ys (h .1) k)
+
+  pub map-out : {B : Type 0} (f : B → A) (xs : List B) → All P (map f xs) → All (λ x. P (f x)) xs
+  unfolding All
+  map-out f [] h = tt
+  map-out f (x ∷ xs) h = (h .0, map-out f xs (h .1))
+
+  pub each-out : {B : Type 0} (xs : List B) (f : B → List A) → All P (each xs f) → All (λ x. All P (f x)) xs
+  unfolding All each
+  each-out [] f h = tt
+  each-out (x ∷ xs) f h = let r = append-out P (f x) (each xs f) h in (r .0, each-out xs f (r .1))
+
+  pub each-in : {B : Type 0} (xs : List B) (f : B → List A) → All (λ x. All P (f x)) xs → All P (each xs f)
+  unfolding All each
+  each-in [] f h = tt
+  each-in (x ∷ xs) f h = append-in (f x) (each xs f) (h .0) (each-in xs f (h .1))
+
+-- a test over a list
+module _ {A : Type 0} (p : A → Bool) where
+  pub all-out : (xs : List A) → all p xs ≡ true → All (λ x. p x ≡ true) xs
+  unfolding All all
+  all-out [] e = tt
+  all-out (x ∷ xs) e = let r = and-split (p x) (all p xs) e in (r .0, all-out xs (r .1))
+
+  pub all-in : (xs : List A) → All (λ x. p x ≡ true) xs → all p xs ≡ true
+  unfolding All all
+  all-in [] h = refl
+  all-in (x ∷ xs) h = and-join (h .0) (all-in xs (h .1))
+
+-- a test over a list, decided from index i on: one element at a time
+module _ {A : Type 0} (p : A → Bool) (xs : List A) (i : ℕ) (d : A) where
+  pub all-here : i < length xs → p (getD xs i d) ≡ true → all p (drop i xs) ≡ all p (drop (i + 1) xs)
+  unfolding all
+  all-here h e = rw (add-one, drop-cons xs i d, e)
+
+  pub all-fails : i < length xs → p (getD xs i d) ≡ false → all p (drop i xs) ≡ false
+  unfolding all
+  all-fails h e = rw (drop-cons xs i d, e)
+
+  pub all-whole : length xs ≤ i → all p (drop i xs) ≡ true
+  unfolding all
+  all-whole h = rw (drop-of-length-le xs h)
+
+-- what is written of each element, where two ways of writing agree
+pub each-same : {A B : Type 0} (f h : A → List B) (xs : List A) → All (λ x. f x ≡ h x) xs → each xs f ≡ each xs h
+unfolding All each
+each-same f h [] e = refl
+each-same f h (x ∷ xs) e = rw (e .0, each-same f h xs (e .1))
+
+pub each-append : {A B : Type 0} (f : A → List B) (xs ys : List A) → each (xs ++ ys) f ≡ each xs f ++ each ys f
+unfolding each
+each-append f [] ys = refl
+each-append f (x ∷ xs) ys = ap (λ z. f x ++ z) (each-append f xs ys) ∙ sym (append-assoc (f x) (each xs f) (each ys f))
+
+-- the numbers from a on, and those below n
+from-out : (P : ℕ → Type 0) (a n : ℕ) → All P (from a n) → (i : ℕ) → a ≤ i → i < a + n → P i
+unfolding All from
+from-out P a zero h i low high = absurd (omega arith)
+from-out P a (suc n) h i low high = by-test (eqb a i)
+    (λ t. subst P (eqb-true a i t) (h .0))
+    (λ t. from-out P (suc a) n (h .1) i (lt-of-le-ne low (eqb-false a i t)) (omega arith))
+
+pub below-out : (P : ℕ → Type 0) (n : ℕ) → All P (upTo n) → (i : ℕ) → i < n → P i
+below-out P n h i k = from-out P 0 n h i (omega arith) (omega arith)
+
+from-more : (a n : ℕ) → from a (n + 1) ≡ from a n ++ ((a + n) ∷ [])
+unfolding from
+from-more a zero = let e : a + 0 ≡ a = omega arith in rw e
+from-more a (suc n) =
+    let e : suc n + 1 ≡ suc (n + 1) = omega arith in
+    let k : suc a + n ≡ a + suc n = omega arith in
+    rw e (ap (λ xs. a ∷ xs) (from-more (suc a) n ∙ ap (λ m. from (suc a) n ++ (m ∷ [])) k))
+
+-- what is written of the numbers below n: one more, and no more than n times what one takes
+module _ {A : Type 0} (h : ℕ → List A) where
+  pub each-more : (n : ℕ) → each (upTo (n + 1)) h ≡ each (upTo n) h ++ h n
+  unfolding each
+  each-more n =
+      let e : 0 + n ≡ n = omega arith in
+      rw (from-more 0 n, e) (each-append h (upTo n) (n ∷ []) ∙ ap (λ z. each (upTo n) h ++ z) (append-nil (h n)))
+
+  pub each-short : (k n : ℕ) → ((i : ℕ) → i < n → length (h i) ≤ k) → length (each (upTo n) h) ≤ n * k
+  unfolding each from
+  each-short k zero f = omega arith
+  each-short k (suc n) f =
+      let e : suc n ≡ n + 1 = omega arith in
+      let m = ap length (ap (λ j. each (upTo j) h) e ∙ each-more n) in
+      let l = length-append (each (upTo n) h) (h n) in
+      let before = each-short k n (λ i j. f i (omega arith)) in
+      let this = f n (omega arith) in
+      let times : suc n * k ≡ n * k + k = suc-mul n k in
+      omega arith

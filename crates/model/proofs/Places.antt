@@ -2,7 +2,7 @@
 -- All of it is read off `encode`, one section after another. Assumes nothing.
 use mathlib.Core.Path.{_≡_, refl, sym, ap, subst, _∙_}
 use mathlib.Core.List.{List, [], _∷_, _++_, map, append-assoc, append-nil}
-use Prim.Native.Nat.{ℕ, zero, suc, _+_, _-_, _*_, _/_, _%_, _<_, _≤_}
+use Prim.Native.Nat.{ℕ, zero, suc, _+_, _*_, _/_, _%_, _<_, _≤_}
 use native.Mathlib.Nat.{suc-mul, add-zero}
 use native.Mathlib.Numerals.{add-one}
 use native.Mathlib.Omega.{arith}
@@ -10,7 +10,7 @@ use lib.IntN.{pos, natAbs}
 use lib.ListN.{length, getD, take, drop, length-append, length-drop, length-map, drop-of-length-le, List·getD-append, List·getD-map}
 use lib.Seq.{take-at, drop-at, drop-drop, drop-cons, getD-drop}
 use Rattle.model.specs.Lists.{each, All, Holds, Bytes}
-use Rattle.model.specs.Sheet.{Equation, Constraint, Sheet, constraint, coefficient, signed8, signed16, unsigned, symbolByte, byte, header, countsOf, bytesOf, encodeEquation, encodeConstraint, encode, Accepted, sheetOf}
+use Rattle.model.specs.Sheet.{Equation, Constraint, Sheet, constraint, coefficient, signed8, signed16, unsigned, symbolByte, byte, header, countsAt, countsOf, bytesOf, encodeEquation, encodeConstraint, encode, Accepted, sheetOf}
 use Rattle.model.specs.Range.{ConstraintIn}
 use Rattle.model.proofs.Lists.{weaken, at}
 use Rattle.model.proofs.Signed.{signed-unsigned, sixteen-bytes, signed16-out, small-signed}
@@ -71,6 +71,13 @@ module _ (b : List ℕ) (y : Bytes b) (h : Accepted b) where
 
   pub equation-count-at : byte b 7 ≡ length (sheetOf b .equations)
   equation-count-at = holds-at (header (countsOf (sheetOf b))) 7 opens (omega arith)
+
+  pub constraint-count-at : byte b 8 ≡ length (sheetOf b .constraints)
+  constraint-count-at = holds-at (header (countsOf (sheetOf b))) 8 opens (omega arith)
+
+  -- all four
+  pub counts-at : countsAt b ≡ countsOf (sheetOf b)
+  counts-at = let l = letter-count-at in let v = field-count-at in let e = equation-count-at in let r = constraint-count-at in cc
 
   -- letters, limits, equations and constraints
   after-header : Holds b 9 (sheetOf b .letters ++ (sheetOf b .limits ++ entriesOf (sheetOf b)))

@@ -1,21 +1,79 @@
 -- The answer of every public call on all inputs, refused ones too.
-use mathlib.Core.List.{List, [], _∷_}
+use mathlib.Core.Path.{_≡_}
+use mathlib.Core.Bool.{Bool}
+use mathlib.Core.List.{List, [], _∷_, _++_}
 use Prim.Native.Nat.{ℕ}
+use lib.Dec.{leb, ltb}
+use lib.ListN.{length, drop}
+use Rattle.model.specs.Lists.{pick}
 use Rattle.model.specs.Sheet as sheet
-use Rattle.model.specs.Sheet.{Counts, countsOf, Reading, read}
+use Rattle.model.specs.Sheet.{Sheet, Step, got, fault, Counts, countsOf, Reading, read, template}
+use Rattle.model.specs.Word.{Substitution, letterBytes, spell, solves}
+use Rattle.model.specs.Filling.{filling}
 
 -- "A refusal returns its number only"; a call that finishes answers its values.
 pub data Answer : Type 0 where
   refused : ℕ → Answer
   finished : List ℕ → Answer
 
+-- "Every operation reads the sheet first and gives its refusals before its own."
+abbrev pub ofSheet : Reading → (Sheet → Answer) → Answer
+ofSheet (sheet.accepted s) go = go s
+ofSheet (sheet.refused n) go = refused n
+
+-- a test of the call's own, and the refusal where it fails
+abbrev pub require : Bool → ℕ → Answer → Answer
+require ok n go = pick ok go (refused n)
+
+-- the refusals of a filling, 20 to 23
+abbrev pub ofFilling : Step Substitution → (Substitution → Answer) → Answer
+ofFilling (got g xs) go = go g
+ofFilling (fault n) go = refused n
+
 -- Reading: "The answer is the four counts."
 abbrev pub fourCounts : Counts → List ℕ
 fourCounts c = c .letter-count ∷ c .field-count ∷ c .equation-count ∷ c .constraint-count ∷ []
 
 abbrev pub readingOf : Reading → Answer
-readingOf (sheet.accepted s) = finished (fourCounts (countsOf s))
-readingOf (sheet.refused n) = refused n
+readingOf r = ofSheet r (λ s. finished (fourCounts (countsOf s)))
 
 unfoldable pub reading : List ℕ → Answer
 reading b = readingOf (read b)
+
+-- Checking a filling: "The answer is clash or no clash", 1 or 0.
+abbrev pub verdict : Bool → Answer
+verdict clash = finished (pick clash 1 0 ∷ [])
+
+unfoldable pub checking : List ℕ → List ℕ → Answer
+checking b m = ofSheet (read b) (λ s. ofFilling (filling s m) (λ g. verdict (solves s g)))
+
+-- Spelling: "24 pair number not below E; 25 side not 0 (left) or 1 (right); 20 to 23; 26 buffer shorter than the text." The values are
+-- the text's bytes.
+abbrev pub spelledText : Sheet → ℕ → ℕ → Substitution → List ℕ
+spelledText s p side g = letterBytes s (spell g (template s p side))
+
+unfoldable pub spellingOf : Sheet → ℕ → ℕ → List ℕ → ℕ → Answer
+spellingOf s p side m room =
+    ofFilling (filling s m) (λ g.
+    require (leb (length (spelledText s p side g)) room) 26
+    (finished (spelledText s p side g)))
+
+unfoldable pub spelling : List ℕ → ℕ → ℕ → List ℕ → ℕ → Answer
+spelling b p side m room =
+    ofSheet (read b) (λ s.
+    require (ltb p (length (s .equations))) 24
+    (require (leb side 1) 25
+    (spellingOf s p side m room)))
+
+-- A call that writes its values: "the answer is its length", and in the lent buffer "later bytes are unchanged". Refused, "no lent byte
+-- changes". `Writes` says both of an answer and of a buffer before and after.
+abbrev pub sized : Answer → Answer
+sized (refused n) = refused n
+sized (finished values) = finished (length values ∷ [])
+
+abbrev pub written : Answer → List ℕ → List ℕ
+written (refused n) buffer = buffer
+written (finished values) buffer = values ++ drop (length values) buffer
+
+abbrev pub Writes : Answer → List ℕ → Answer → List ℕ → Type 0
+Writes a before answer after = (answer ≡ sized a) × (after ≡ written a before)

@@ -2,9 +2,9 @@
 use mathlib.Core.Path.{_≡_}
 use mathlib.Core.Bool.{Bool, true, false, _&&_}
 use mathlib.Core.List.{List, [], _∷_, _++_}
-use Prim.Native.Nat.{ℕ, _≤_, _<_}
+use Prim.Native.Nat.{ℕ, zero, suc, _+_, _≤_, _<_}
 use lib.Dec.{leb, eqb}
-use lib.ListN.{length, drop}
+use lib.ListN.{length, take, drop}
 
 -- one of two by a test
 abbrev pub pick : {A : Type 0} → Bool → A → A → A
@@ -21,10 +21,30 @@ startsWith [] xs = true
 startsWith (p ∷ ps) [] = false
 startsWith (p ∷ ps) (x ∷ xs) = eqb x p && startsWith ps xs
 
+-- whether two lists are equal
+unfoldable pub same : List ℕ → List ℕ → Bool
+same [] [] = true
+same [] (y ∷ ys) = false
+same (x ∷ xs) [] = false
+same (x ∷ xs) (y ∷ ys) = eqb x y && same xs ys
+
 -- f of each element, in order, one after another
 unfoldable pub each : {A B : Type 0} → List A → (A → List B) → List B
 each [] f = []
 each (x ∷ xs) f = f x ++ each xs f
+
+-- the numbers from c on, n of them; and those below n
+unfoldable pub from : ℕ → ℕ → List ℕ
+from c zero = []
+from c (suc n) = c ∷ from (suc c) n
+
+abbrev pub upTo : ℕ → List ℕ
+upTo n = from 0 n
+
+-- whether a test passes at every element
+unfoldable pub all : {A : Type 0} → (A → Bool) → List A → Bool
+all p [] = true
+all p (x ∷ xs) = p x && all p xs
 
 -- P of every element
 unfoldable pub All : {A : Type 0} → (A → Type 0) → List A → Type 0
@@ -36,6 +56,14 @@ pub record Holds (b : List ℕ) (k : ℕ) (xs : List ℕ) : Type 0 where
   pub others : List ℕ
   pub is : drop k b ≡ xs ++ others
   pub inside : k ≤ length b
+
+-- the list s with p in the place of its elements from an offset on
+abbrev pub placed : List ℕ → ℕ → List ℕ → List ℕ
+placed s at p = take at s ++ (p ++ drop (at + length p) s)
+
+-- what a function does that writes a piece into a buffer at an offset, and answers the offset past it
+abbrev pub Puts : List ℕ → ℕ → List ℕ → List ℕ → ℕ → Type 0
+Puts before at piece after past = (past ≡ at + length piece) × (after ≡ placed before at piece)
 
 -- numbers below 256
 abbrev pub Bytes : List ℕ → Type 0

@@ -25,6 +25,11 @@ pub const EQUATION_COUNT: usize = 7;
 
 pub const CONSTRAINT_COUNT: usize = 8;
 
+// The symbol of field 0, and the greatest width of a template.
+pub const FIRST_FIELD: u8 = 128;
+
+pub const WIDEST: usize = 24;
+
 // A fault that the walk can meet.
 pub enum Fault {
     Missing,

@@ -1,9 +1,11 @@
 // The walk through a sheet's bytes after its header: rows of bytes, and the sections that are made of them.
+use super::FIRST_FIELD;
 use super::Fault;
 use super::HEADER;
 use super::Progress;
 use super::Role;
 use super::Section;
+use super::WIDEST;
 use super::bytes::signed_byte;
 use super::bytes::stretch;
 use super::bytes::wide;
@@ -16,7 +18,7 @@ ghost use Rattle.model.specs.Sheet.{letterByte, templateByte, coefficientByte, 
 ghost use Rattle.model.specs.Sheet as model;
 ghost use Rattle.scan.specs.Progress.{numberOf, countsOf, left, roleOf, landed, within, limitsIn, entryOf, tablesOf};
 
-// Document 01's ranges: a letter's byte, a limit, a symbol count, the symbol of field 0, a coefficient, a width.
+// Document 01's ranges: a letter's byte, a limit, a symbol count, a coefficient.
 const LEAST_LETTER: u8 = 33;
 
 const GREATEST_LETTER: u8 = 126;
@@ -25,13 +27,9 @@ const GREATEST_LIMIT: u8 = 8;
 
 const MOST_SYMBOLS: u8 = 12;
 
-const FIRST_FIELD: u8 = 128;
-
 const LEAST_COEFFICIENT: i8 = -4;
 
 const GREATEST_COEFFICIENT: i8 = 4;
-
-const WIDEST: usize = 24;
 
 // Whether x is a letter's byte, above the one before it.
 fn letter_passes(before: u8, x: u8) -> bool

@@ -2,6 +2,7 @@
 mod parts;
 
 pub use parts::coefficient;
+pub use parts::four_counts;
 pub use parts::letter;
 pub use parts::limit;
 pub use parts::most;

@@ -1,4 +1,6 @@
 // What an accepted sheet says, by number. Every function here requires an accepted sheet and a number of a part that it has.
+use crate::Counts;
+use scan::CONSTRAINT_COUNT;
 use scan::EQUATION_COUNT;
 use scan::FIELD_COUNT;
 use scan::HEADER;
@@ -14,6 +16,20 @@ ghost use lib.ListN.{length, drop};
 ghost use Rattle.model.specs.Lists.{each, Holds};
 ghost use Rattle.model.specs.Sheet.{symbolByte, encodeEquation, encodeConstraint, Accepted, sheetOf, letterOf};
 ghost use Rattle.model.specs.Sheet as model;
+ghost use Rattle.sheet.specs.Answer.{countsOf};
+
+// The four counts.
+pub fn four_counts(sheet: &[u8]) -> Counts
+    requires { ⌜ Accepted (now sheet) ⌝ }
+    ensures { λ r. ⌜ countsOf r ≡ model.countsOf (sheetOf (now (sheet .entry))) ⌝ }
+{
+    Counts {
+        letters: sheet[LETTER_COUNT],
+        fields: sheet[FIELD_COUNT],
+        equations: sheet[EQUATION_COUNT],
+        constraints: sheet[CONSTRAINT_COUNT],
+    }
+}
 
 // The byte of letter a.
 pub fn letter(sheet: &[u8], a: usize) -> u8

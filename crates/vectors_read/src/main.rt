@@ -2,17 +2,13 @@
 // and the four counts or document 01's number of the refusal. A line of the file stdin is a sheet's
 // name, a colon and its bytes in hexadecimal, with spaces between its parts; or it has no colon, is
 // a heading and is printed as it is. The file stdout has document 01's answers.
+use hex::decode;
+use hex::find;
 use libc::STDIN_FILENO;
 use libc::STDOUT_FILENO;
-ghost use Prim.Native.Nat.{_≤_};
-ghost use lib.ListN.{length};
-ghost use Rattle.io.specs.Counts.{Counts};
 
 // Room for a sheet's bytes. Document 01 accepts none of more than 159.
 const ROOM: usize = 256;
-
-// What `digit` answers for a byte that is no digit.
-const NO_DIGIT: u8 = 16;
 
 // Shows each line of standard input, of which the first 65,536 bytes are read.
 fn main() {
@@ -43,52 +39,6 @@ fn show_line(text: &[u8]) {
     // The colon is no digit, and is passed over.
     let n = decode(&text[colon..], &mut sheet);
     show(&text[..colon], &sheet[..n]);
-}
-
-// The index of the first `x` at or after `from`, or the length of `text` where there is none.
-fn find(text: &[u8], from: usize, x: u8) -> usize
-    requires { ⌜ from ≤ length (now text) ⌝ }
-    ensures { λ r. ⌜ from ≤ r ⌝ }
-    ensures { λ r. ⌜ Counts r (now (text .entry)) ⌝ }
-{
-    let mut i = from;
-    while i < text.len() && text[i] != x {
-        i += 1;
-    }
-    i
-}
-
-// Puts the bytes that the hexadecimal digits of `text` spell at the front of `out`, as many as it
-// has room for, and answers how many. What is no digit is passed over, and so is a last half byte.
-fn decode(text: &[u8], out: &mut [u8]) -> usize
-    ensures { λ r. ⌜ Counts r (now (out .exit)) ⌝ }
-{
-    let mut n = 0;
-    let mut high = NO_DIGIT;
-    let mut i = 0;
-    while i < text.len() && n < out.len() {
-        let low = digit(text[i]);
-        if low < NO_DIGIT {
-            if high < NO_DIGIT {
-                out[n] = high * 16 + low;
-                n += 1;
-                high = NO_DIGIT;
-            } else {
-                high = low;
-            }
-        }
-        i += 1;
-    }
-    n
-}
-
-// The value of a hexadecimal digit, in upper case, or `NO_DIGIT` for any other byte.
-fn digit(x: u8) -> u8 {
-    match x {
-        b'0'..=b'9' => x - b'0',
-        b'A'..=b'F' => x - b'A' + 10,
-        _ => NO_DIGIT,
-    }
 }
 
 // Prints a sheet's name and what reading it answers, as one line.

@@ -1,4 +1,4 @@
--- `vectors_read::show_lines` is safe and ends: the measure is what is left of the text. Nothing has to hold from turn to turn. Assumes nothing.
+-- `vectors_read::show_lines` meets its contract. Nothing has to hold from turn to turn: the measure is what is left of the text. Assumes nothing.
 use Prim.Native.Nat.{_-_}
 use native.Mathlib.Omega.{arith}
 use lib.ListN.{length}

@@ -1,6 +1,5 @@
 -- `scan::walk::constraint` meets its contract: the coefficients, then the limit. Assumes nothing.
 use mathlib.Core.Path.{_≡_, sym, _∙_}
-use Prim.Native.Nat.{_-_}
 use native.Mathlib.Omega.{arith}
 use lib.ListN.{drop}
 use Rattle.model.specs.Sheet as model

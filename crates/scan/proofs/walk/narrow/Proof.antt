@@ -1,5 +1,4 @@
 -- `scan::walk::narrow` meets its contract: the two stretches are the limits and the template. Assumes nothing.
-use Prim.Native.Nat.{_-_}
 use native.Mathlib.Omega.{arith}
 use lib.ListN.{length-take}
 use borrow.Author.Needs.{needs}

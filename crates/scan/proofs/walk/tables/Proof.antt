@@ -1,6 +1,6 @@
 -- `scan::walk::tables` meets its contract: the letters, then the limits. Assumes nothing.
 use mathlib.Core.Path.{_≡_, sym, subst, _∙_}
-use Prim.Native.Nat.{_+_, _-_}
+use Prim.Native.Nat.{_+_}
 use native.Mathlib.Omega.{arith}
 use lib.ListN.{drop}
 use Rattle.model.specs.Sheet as model

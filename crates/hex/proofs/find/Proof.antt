@@ -1,10 +1,11 @@
--- `vectors_read::find` meets its contract: the index stays from `from` to the length, and the measure is what is left of the text. Assumes nothing.
+-- `hex::find` meets its contract. The loop's invariant: the index is from `from` to the length. Assumes nothing.
+use mathlib.Core.Path.{sym}
 use Prim.Native.Nat.{_≤_, _-_}
 use native.Mathlib.Omega.{arith}
 use lib.ListN.{length}
-use Rattle.io.proofs.Counting.{counts}
-use Rattle.vectors_read.proofs.find.Statement.{statement}
-use Rattle.vectors_read.proofs.find.Tie as tie
+use lib.Seq.{length-take-le}
+use Rattle.hex.proofs.find.Statement.{statement}
+use Rattle.hex.proofs.find.Tie as tie
 
 abbrev Inv-loop : tie.InvT-loop
 Inv-loop text from x i₀ i = (from ≤ i) × (i ≤ length text)
@@ -28,10 +29,10 @@ loop-again : tie.Need-loop-again Inv-loop μ-loop
 loop-again c = omega arith
 
 returns : tie.Need-returns Inv-loop μ-loop
-returns c = (omega arith, counts _ _ (omega arith))
+returns c = (omega arith, (omega arith, sym (length-take-le _ _ (omega arith))))
 
 returns-2 : tie.Need-returns-2 Inv-loop μ-loop
-returns-2 c = (omega arith, counts _ _ (omega arith))
+returns-2 c = (omega arith, (omega arith, sym (length-take-le _ _ (omega arith))))
 
 pub find-spec : {M : Type 1} → statement M
 find-spec =

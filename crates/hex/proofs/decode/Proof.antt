@@ -1,13 +1,13 @@
--- `vectors_read::decode` meets its contract: what is written stays within `out`, whose length no store changes, and the measure is what is left of the text. Assumes nothing.
-use mathlib.Core.Path.{_≡_, ap}
+-- `hex::decode` meets its contract. The loop's invariant: what was written stands within `out`, whose length no store changes. Assumes nothing.
+use mathlib.Core.Path.{_≡_, sym, ap}
 use mathlib.Core.Logic.{⊎-elim}
 use Prim.Native.Nat.{_≤_, _-_}
 use native.Mathlib.Omega.{arith}
 use lib.ListN.{length, length-set}
+use lib.Seq.{length-take-le}
 use borrow.Author.Tests.{ltb-true}
-use Rattle.io.proofs.Counting.{counts}
-use Rattle.vectors_read.proofs.decode.Statement.{statement}
-use Rattle.vectors_read.proofs.decode.Tie as tie
+use Rattle.hex.proofs.decode.Statement.{statement}
+use Rattle.hex.proofs.decode.Tie as tie
 
 abbrev Inv-loop : tie.InvT-loop
 Inv-loop text out₀ n₀ high₀ i₀ out n high i = (n ≤ length out) × (length out ≡ length out₀)
@@ -54,13 +54,13 @@ same-length : tie.Need-same-length Inv-loop μ-loop
 same-length c = omega arith
 
 returns : tie.Need-returns Inv-loop μ-loop
-returns c = counts _ _ (omega arith)
+returns c = (omega arith, sym (length-take-le _ _ (omega arith)))
 
 same-length-2 : tie.Need-same-length-2 Inv-loop μ-loop
 same-length-2 c = omega arith
 
 returns-2 : tie.Need-returns-2 Inv-loop μ-loop
-returns-2 c = counts _ _ (omega arith)
+returns-2 c = (omega arith, sym (length-take-le _ _ (omega arith)))
 
 pub decode-spec : {M : Type 1} → statement M
 decode-spec =

@@ -1,0 +1,2 @@
+pub mod Memory
+pub mod Answer

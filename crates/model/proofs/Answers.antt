@@ -1,0 +1,129 @@
+-- Checking and spelling, computed: fillings with their answers, most of the damaged ones with two faults at once, so that the order of
+-- the refusals is a theorem. Assumes nothing.
+use mathlib.Core.Path.{_≡_, refl}
+use mathlib.Core.List.{List, [], _∷_, _++_, map}
+use Prim.Native.Nat.{ℕ}
+use Rattle.model.specs.Lists.{startsWith, same, each, from, all}
+use Rattle.model.specs.Sheet.{row, times, sides, anEquation, aConstraint, walk, width, signed, opening, read, sheetIn}
+use Rattle.model.specs.Word.{spell, weight, sameWord, equationHolds, constraintHolds, keeps, solves}
+use Rattle.model.specs.Filling.{places, aText, texts, filling}
+use Rattle.model.specs.Report.{report}
+use Rattle.model.specs.Calls.{Answer, refused, finished, checking, spellingOf, spelling, written}
+use Rattle.model.proofs.Computed.{sheet}
+
+-- over A and B the fields X of limit 2 and Y of limit 1, and the pairs XAY, AY and Y, nothing
+abbrev pub asked : List ℕ
+asked = sheet 2 2 2 0 (65 ∷ 66 ∷ 2 ∷ 1 ∷ 3 ∷ 2 ∷ 128 ∷ 0 ∷ 129 ∷ 0 ∷ 129 ∷ 1 ∷ 0 ∷ 129 ∷ [])
+
+-- and a byte left over
+abbrev pub leftOver : List ℕ
+leftOver = asked ++ (0 ∷ [])
+
+-- no fields, A against A
+abbrev pub fieldless : List ℕ
+fieldless = sheet 1 0 1 0 (65 ∷ 1 ∷ 1 ∷ 0 ∷ 0 ∷ [])
+
+-- X of limit 8 against X, and Y of limit 0; the rules 4 × X at most 32, and -4 × X + 4 × Y at most -32
+abbrev pub ruled : List ℕ
+ruled = sheet 1 2 1 2 (65 ∷ 8 ∷ 0 ∷ 1 ∷ 1 ∷ 128 ∷ 128 ∷ 4 ∷ 0 ∷ 0 ∷ 32 ∷ 252 ∷ 4 ∷ 255 ∷ 224 ∷ [])
+
+-- a field's nine bytes, from the first three on
+abbrev pub nine : ℕ → ℕ → ℕ → List ℕ
+nine n a b = n ∷ a ∷ b ∷ 255 ∷ 255 ∷ 255 ∷ 255 ∷ 255 ∷ 255 ∷ []
+
+abbrev pub empty : List ℕ
+empty = nine 0 255 255
+
+pub record Check : Type 0 where
+  pub on : List ℕ
+  pub of : List ℕ
+  pub answer : Answer
+
+abbrev pub _checks_ : List ℕ → Answer → Check
+_checks_ m a = record { on = asked; of = m; answer = a }
+
+infix 5 _checks_
+abbrev pub checked : List Check
+checked =
+    (empty ++ empty checks finished (1 ∷ []))
+    ∷ (nine 1 0 255 ++ empty checks finished (0 ∷ []))
+    -- the first pair holds, the second does not
+    ∷ (empty ++ nine 1 1 255 checks finished (0 ∷ []))
+    -- the size, with a length above the limit
+    ∷ ([] checks refused 20)
+    ∷ (nine 3 0 0 checks refused 20)
+    ∷ (nine 3 0 0 ++ (empty ++ (0 ∷ [])) checks refused 20)
+    -- a length above the limit, with a letter number and a place past the length
+    ∷ (nine 3 2 2 ++ empty checks refused 21)
+    ∷ (empty ++ nine 2 2 0 checks refused 21)
+    -- a letter number, with a place past the length, and with a length in the next field
+    ∷ (nine 1 2 0 ++ empty checks refused 22)
+    ∷ (nine 1 255 255 ++ nine 2 0 0 checks refused 22)
+    ∷ (nine 2 0 2 ++ nine 1 0 0 checks refused 22)
+    -- a place past the length, with a length and with a letter number in the next field
+    ∷ (nine 0 0 255 ++ nine 2 0 0 checks refused 23)
+    ∷ (nine 1 0 254 ++ nine 1 2 255 checks refused 23)
+    ∷ (empty ++ nine 1 0 0 checks refused 23)
+    -- the sheet is read first
+    ∷ record { on = leftOver; of = []; answer = refused 9 }
+    -- no fields: the empty filling, and nothing else
+    ∷ record { on = fieldless; of = []; answer = finished (1 ∷ []) }
+    ∷ record { on = fieldless; of = 0 ∷ []; answer = refused 20 }
+    -- a full field of eight letters, one of limit 0, and two rules: at their limits, and the second one above
+    ∷ record { on = ruled; of = (8 ∷ 0 ∷ 0 ∷ 0 ∷ 0 ∷ 0 ∷ 0 ∷ 0 ∷ 0 ∷ []) ++ empty; answer = finished (1 ∷ []) }
+    ∷ record { on = ruled; of = (8 ∷ 0 ∷ 0 ∷ 0 ∷ 0 ∷ 0 ∷ 0 ∷ 0 ∷ 255 ∷ []) ++ empty; answer = refused 22 }
+    ∷ record { on = ruled; of = (7 ∷ 0 ∷ 0 ∷ 0 ∷ 0 ∷ 0 ∷ 0 ∷ 0 ∷ 255 ∷ []) ++ empty; answer = finished (0 ∷ []) }
+    ∷ record { on = ruled; of = (7 ∷ 0 ∷ 0 ∷ 0 ∷ 0 ∷ 0 ∷ 0 ∷ 0 ∷ 255 ∷ []) ++ nine 1 0 255; answer = refused 21 }
+    ∷ []
+
+pub check-answers : map (λ (c : Check). checking (c .on) (c .of)) checked ≡ map (λ (c : Check). c .answer) checked
+unfolding startsWith row times sides anEquation aConstraint walk width signed opening read each all same spell weight sameWord equationHolds constraintHolds keeps solves places aText texts filling checking
+check-answers = refl
+
+pub record Spell : Type 0 where
+  pub on : List ℕ
+  pub pair : ℕ
+  pub side : ℕ
+  pub of : List ℕ
+  pub room : ℕ
+  pub answer : Answer
+
+abbrev pub spells : List ℕ → ℕ → ℕ → List ℕ → ℕ → Answer → Spell
+spells b p side m room a = record { on = b; pair = p; side = side; of = m; room = room; answer = a }
+
+abbrev pub spellings : List Spell
+spellings =
+    -- XAY and AY with X=BA, Y=B; the second pair's sides
+    spells asked 0 0 (nine 2 1 0 ++ nine 1 1 255) 4 (finished (66 ∷ 65 ∷ 65 ∷ 66 ∷ []))
+    ∷ spells asked 0 1 (nine 2 1 0 ++ nine 1 1 255) 9 (finished (65 ∷ 66 ∷ []))
+    ∷ spells asked 1 0 (nine 2 1 0 ++ nine 1 1 255) 1 (finished (66 ∷ []))
+    ∷ spells asked 1 1 (nine 2 1 0 ++ nine 1 1 255) 0 (finished [])
+    -- rules play no part
+    ∷ spells ruled 0 0 (nine 1 0 255 ++ empty) 3 (finished (65 ∷ []))
+    -- each refusal, with the next one
+    ∷ spells leftOver 2 2 [] 0 (refused 9)
+    ∷ spells asked 2 2 [] 0 (refused 24)
+    ∷ spells asked 1 2 [] 0 (refused 25)
+    ∷ spells asked 0 0 (nine 3 2 0) 0 (refused 20)
+    ∷ spells asked 0 0 (nine 3 2 0 ++ empty) 0 (refused 21)
+    ∷ spells asked 0 0 (nine 1 2 0 ++ empty) 0 (refused 22)
+    ∷ spells asked 0 0 (nine 1 0 0 ++ empty) 0 (refused 23)
+    ∷ spells asked 0 0 (nine 2 1 0 ++ nine 1 1 255) 3 (refused 26)
+    ∷ []
+
+pub spell-answers : map (λ (c : Spell). spelling (c .on) (c .pair) (c .side) (c .of) (c .room)) spellings ≡ map (λ (c : Spell). c .answer) spellings
+unfolding startsWith row times sides anEquation aConstraint walk width signed opening read each spell places aText texts filling spellingOf spelling
+spell-answers = refl
+
+-- what is left in a longer buffer
+pub later-bytes : written (spelling asked 0 1 (nine 2 1 0 ++ nine 1 1 255) 4) (1 ∷ 2 ∷ 3 ∷ 4 ∷ []) ≡ 65 ∷ 66 ∷ 3 ∷ 4 ∷ []
+unfolding startsWith row times sides anEquation aConstraint walk width signed opening read each spell places aText texts filling spellingOf spelling
+later-bytes = refl
+
+-- What the programs print for document 01's sheet P and X=A: "`clash`, `field 0=A`, `pair 0=A`".
+pub report-P : report (sheetIn (read (sheet 1 1 1 0 (65 ∷ 1 ∷ 1 ∷ 1 ∷ 128 ∷ 0 ∷ [])))) ((0 ∷ []) ∷ []) ≡
+    (99 ∷ 108 ∷ 97 ∷ 115 ∷ 104 ∷ 10 ∷ [])
+    ++ (102 ∷ 105 ∷ 101 ∷ 108 ∷ 100 ∷ 32 ∷ 48 ∷ 61 ∷ 65 ∷ 10 ∷ [])
+    ++ (112 ∷ 97 ∷ 105 ∷ 114 ∷ 32 ∷ 48 ∷ 61 ∷ 65 ∷ 10 ∷ [])
+unfolding startsWith row times sides anEquation aConstraint walk width signed opening read each from spell report
+report-P = refl

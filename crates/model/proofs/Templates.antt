@@ -1,0 +1,45 @@
+-- What an accepted sheet's templates keep to: of their symbols, of their bytes, and of the words that they spell. Assumes nothing.
+use mathlib.Core.Path.{_≡_}
+use mathlib.Core.Bool.{Bool, true, false}
+use mathlib.Core.List.{map}
+use Prim.Native.Nat.{ℕ, _<_, _≤_}
+use native.Mathlib.Omega.{arith}
+use lib.Dec.{eqb}
+use lib.ListN.{length}
+use Rattle.model.specs.Lists.{pick, All}
+use Rattle.model.specs.Sheet.{Symbol, letter, field, Sheet, equation, template, symbolOf, symbolByte}
+use Rattle.model.specs.Range.{SymbolIn, TemplateIn, EquationIn, InRange}
+use Rattle.model.specs.Word.{Substitution, Legal, spell}
+use Rattle.model.proofs.Lists.{at, weaken, map-in}
+use Rattle.model.proofs.Sections.{symbols-again}
+use Rattle.model.proofs.Words.{spell-short}
+
+module _ (s : Sheet) (ok : InRange s) (p : ℕ) (h : p < length (s .equations)) where
+  pub template-in : (side : ℕ) → TemplateIn (length (s .letters)) (s .limits) (template s p side)
+  template-in side = either (eqb side 0)
+    where
+      e : EquationIn (length (s .letters)) (s .limits) (equation s p)
+      e = at _ (s .equations) p _ (ok .equations-in) h
+
+      either : (left : Bool) → TemplateIn (length (s .letters)) (s .limits) (pick left (equation s p .left) (equation s p .right))
+      either true = e .left-in
+      either false = e .right-in
+
+  -- its bytes are symbols again, and small
+  pub template-again : (side : ℕ) → map symbolOf (map symbolByte (template s p side)) ≡ template s p side
+  template-again side =
+      symbols-again (length (s .letters)) (length (s .limits)) (omega (arith, ok .counts-in .of-letters)) (template s p side) (template-in side .symbols)
+
+  pub template-bytes : (side : ℕ) → All (λ x. x < 134) (map symbolByte (template s p side))
+  template-bytes side = map-in (λ x. x < 134) symbolByte (template s p side) (weaken _ _ (template s p side) small (template-in side .symbols))
+    where
+      small : (x : Symbol) → SymbolIn (length (s .letters)) (length (s .limits)) x → symbolByte x < 134
+      small (letter a) k = omega (arith, ok .counts-in .of-letters)
+      small (field f) k = omega (arith, ok .counts-in .of-fields)
+
+  -- "at most 24"
+  pub template-room : (g : Substitution) → Legal s g → (side : ℕ) → length (spell g (template s p side)) ≤ 24
+  template-room g legal side =
+      let t = template-in side in
+      let n = spell-short s g legal (template s p side) (t .symbols) in
+      omega (arith, t .wide)

@@ -1,0 +1,140 @@
+-- The tests of specs/Word decide what it says; and the word that a template spells: symbol by symbol, by the texts of its fields alone,
+-- over the letters, and no longer than its cells. Assumes nothing.
+use mathlib.Core.Path.{_≡_, refl, sym, ap, _∙_}
+use mathlib.Core.Bool.{Bool, true, false, _&&_}
+use mathlib.Core.List.{List, [], _∷_, _++_, append-nil}
+use Prim.Native.Nat.{ℕ, _+_, _<_, _≤_}
+use native.Mathlib.Numerals.{add-one}
+use native.Mathlib.Omega.{arith}
+use lib.Dec.{T}
+use lib.ListN.{length, getD, take, drop, length-append, take-append-drop}
+use lib.Seq.{take-suc}
+use lib.Signed.{leZ}
+use Rattle.model.specs.Lists.{same, each, All, all}
+use Rattle.model.specs.Sheet.{Symbol, letter, field, Constraint, Sheet, cellsOf, width}
+use Rattle.model.specs.Range.{SymbolIn}
+use Rattle.model.specs.Word.{Substitution, text, Legal, symbolWord, spell, SameWord, EquationHolds, weight, ConstraintHolds, Keeps, Solves, sameWord, equationHolds, constraintHolds, keeps, solves}
+use Rattle.model.proofs.Lists.{never, and-split, and-join, and-true, same-equal, equal-same, weaken, each-in, all-out, all-in, each-same, each-append}
+
+-- Two words are the same text exactly when they are equal, and `sameWord` decides it.
+pub same-word-equal : (s : Sheet) (u w : List ℕ) → SameWord s u w → u ≡ w
+unfolding SameWord
+same-word-equal s u w h = h
+
+pub equal-same-word : (s : Sheet) (u w : List ℕ) → u ≡ w → SameWord s u w
+unfolding SameWord
+equal-same-word s u w h = h
+
+pub same-word-out : (s : Sheet) (u w : List ℕ) → sameWord s u w ≡ true → SameWord s u w
+unfolding sameWord SameWord
+same-word-out s u w h = same-equal u w h
+
+pub same-word-in : (s : Sheet) (u w : List ℕ) → SameWord s u w → sameWord s u w ≡ true
+unfolding sameWord SameWord
+same-word-in s u w h = equal-same u w h
+
+-- the code's comparison decides it
+pub same-word : (s : Sheet) (u w : List ℕ) → sameWord s u w ≡ same u w
+unfolding sameWord
+same-word s u w = refl
+
+-- `solves` decides `Solves` of a legal substitution.
+of-test : (b : Bool) → b ≡ true → T b
+of-test true e = tt
+of-test false e = never e
+
+to-test : (b : Bool) → T b → b ≡ true
+to-test true t = refl
+to-test false t = absurd t
+
+constraint-out : (s : Sheet) (g : Substitution) (r : Constraint) → constraintHolds s g r ≡ true → ConstraintHolds s g r
+unfolding constraintHolds
+constraint-out s g r e = record { le = of-test (leZ (weight r g (length (s .limits))) (r .most)) e }
+
+constraint-in : (s : Sheet) (g : Substitution) (r : Constraint) → ConstraintHolds s g r → constraintHolds s g r ≡ true
+unfolding constraintHolds
+constraint-in s g r h = to-test (leZ (weight r g (length (s .limits))) (r .most)) (h .le)
+
+-- what fields ask beyond letters and limits
+keeps-out : (s : Sheet) (g : Substitution) → keeps s g ≡ true → Keeps s g
+unfolding Keeps
+keeps-out s g e = tt
+
+keeps-in : (s : Sheet) (g : Substitution) → Keeps s g → keeps s g ≡ true
+unfolding keeps
+keeps-in s g k = refl
+
+pub solves-out : (s : Sheet) (g : Substitution) → Legal s g → solves s g ≡ true → Solves s g
+unfolding solves equationHolds
+solves-out s g ok e =
+    let r = and-split (all (equationHolds s g) (s .equations)) (all (constraintHolds s g) (s .constraints) && keeps s g) e in
+    let q = and-split (all (constraintHolds s g) (s .constraints)) (keeps s g) (r .1) in
+    record {
+      is-legal = ok;
+      equations-hold = weaken _ (EquationHolds s g) (s .equations) (λ x. same-word-out s (spell g (x .left)) (spell g (x .right))) (all-out (equationHolds s g) (s .equations) (r .0));
+      constraints-hold = weaken _ (ConstraintHolds s g) (s .constraints) (constraint-out s g) (all-out (constraintHolds s g) (s .constraints) (q .0));
+      keeps-all = keeps-out s g (q .1);
+    }
+
+pub solves-in : (s : Sheet) (g : Substitution) → Solves s g → solves s g ≡ true
+unfolding solves equationHolds
+solves-in s g h =
+    and-join
+    (all-in (equationHolds s g) (s .equations) (weaken _ _ (s .equations) (λ x. same-word-in s (spell g (x .left)) (spell g (x .right))) (h .equations-hold)))
+    (and-join (all-in (constraintHolds s g) (s .constraints) (weaken _ _ (s .constraints) (constraint-in s g) (h .constraints-hold))) (keeps-in s g (h .keeps-all)))
+
+-- in version 1 it is decided by the equations and the constraints
+pub solves-parts : (s : Sheet) (g : Substitution) → solves s g ≡ (all (equationHolds s g) (s .equations) && all (constraintHolds s g) (s .constraints))
+unfolding solves keeps
+solves-parts s g = ap (λ b. all (equationHolds s g) (s .equations) && b) (and-true (all (constraintHolds s g) (s .constraints)))
+
+-- The word of a template, symbol by symbol.
+pub spell-more : (g : Substitution) (t : List Symbol) (i : ℕ) (d : Symbol) → i < length t → spell g (take (i + 1) t) ≡ spell g (take i t) ++ symbolWord g (getD t i d)
+unfolding spell each
+spell-more g t i d h =
+    rw (add-one, take-suc t i d h) (each-append (symbolWord g) (take i t) (getD t i d ∷ []) ∙ ap (λ z. each (take i t) (symbolWord g) ++ z) (append-nil (symbolWord g (getD t i d))))
+
+spell-split : (g : Substitution) (t : List Symbol) (i : ℕ) → spell g t ≡ spell g (take i t) ++ spell g (drop i t)
+unfolding spell
+spell-split g t i = ap (λ x. each x (symbolWord g)) (sym (take-append-drop i t)) ∙ each-append (symbolWord g) (take i t) (drop i t)
+
+pub spell-part : (g : Substitution) (t : List Symbol) (i : ℕ) → length (spell g (take i t)) ≤ length (spell g t)
+spell-part g t i =
+    let e = ap length (spell-split g t i) in
+    let n = length-append (spell g (take i t)) (spell g (drop i t)) in
+    omega arith
+
+-- Substitutions that agree in the texts of v fields.
+abbrev pub Agree : ℕ → Substitution → Substitution → Type 0
+Agree v g h = (f : ℕ) → f < v → text g f ≡ text h f
+
+module _ (v : ℕ) (g h : Substitution) (same : Agree v g h) where
+  pub spell-agree : (l : ℕ) (t : List Symbol) → All (SymbolIn l v) t → spell g t ≡ spell h t
+  unfolding spell
+  spell-agree l t ok = each-same (symbolWord g) (symbolWord h) t (weaken _ _ t one ok)
+    where
+      one : (x : Symbol) → SymbolIn l v x → symbolWord g x ≡ symbolWord h x
+      one (letter a) k = refl
+      one (field f) k = same f k
+
+-- Of a legal substitution: a template spells letters, and no more than it has cells.
+module _ (s : Sheet) (g : Substitution) (ok : Legal s g) where
+  pub spell-over : (t : List Symbol) → All (SymbolIn (length (s .letters)) (length (s .limits))) t → All (λ a. a < length (s .letters)) (spell g t)
+  unfolding spell All
+  spell-over t h = each-in (λ a. a < length (s .letters)) t (symbolWord g) (weaken _ _ t one h)
+    where
+      one : (x : Symbol) → SymbolIn (length (s .letters)) (length (s .limits)) x → All (λ a. a < length (s .letters)) (symbolWord g x)
+      one (letter a) k = (k, tt)
+      one (field f) k = ok .admits f k .over-letters
+
+  symbol-short : (x : Symbol) → SymbolIn (length (s .letters)) (length (s .limits)) x → length (symbolWord g x) ≤ cellsOf (s .limits) x
+  symbol-short (letter a) k = omega arith
+  symbol-short (field f) k = ok .admits f k .no-longer
+
+  pub spell-short : (t : List Symbol) → All (SymbolIn (length (s .letters)) (length (s .limits))) t → length (spell g t) ≤ width (s .limits) t
+  unfolding spell each width All
+  spell-short [] h = omega arith
+  spell-short (x ∷ xs) h =
+      let one = symbol-short x (h .0) in
+      let others = spell-short xs (h .1) in
+      rw (length-append (symbolWord g x) (each xs (symbolWord g))) (omega arith)

@@ -1,0 +1,43 @@
+-- The text that the search and reply programs print for a clash. "prints `clash`, `field 0=A`, `pair 0=A`: each field's number and text,
+-- each pair's number and text." Every line ends in 0x0A. Fields and pairs are few, so that a number is one digit.
+use mathlib.Core.List.{List, [], _∷_, _++_}
+use Prim.Native.Nat.{ℕ, _+_, _*_}
+use lib.ListN.{length}
+use Rattle.model.specs.Lists.{each, upTo}
+use Rattle.model.specs.Sheet.{Sheet, equation}
+use Rattle.model.specs.Word.{Substitution, text, spell, letterBytes}
+
+-- "clash", and a line end
+abbrev pub clashLine : List ℕ
+clashLine = 99 ∷ 108 ∷ 97 ∷ 115 ∷ 104 ∷ 10 ∷ []
+
+-- a name with a space after it, a number, "=", a text, a line end
+abbrev pub line : List ℕ → ℕ → List ℕ → List ℕ
+line name n t = name ++ (((48 + n) ∷ 61 ∷ []) ++ (t ++ (10 ∷ [])))
+
+-- "field " and "pair "
+abbrev pub fieldName : List ℕ
+fieldName = 102 ∷ 105 ∷ 101 ∷ 108 ∷ 100 ∷ 32 ∷ []
+
+abbrev pub pairName : List ℕ
+pairName = 112 ∷ 97 ∷ 105 ∷ 114 ∷ 32 ∷ []
+
+abbrev pub fieldLine : Sheet → Substitution → ℕ → List ℕ
+fieldLine s g f = line fieldName f (letterBytes s (text g f))
+
+-- in a clash both sides spell it; it is taken from the left
+abbrev pub pairLine : Sheet → Substitution → ℕ → List ℕ
+pairLine s g p = line pairName p (letterBytes s (spell g (equation s p .left)))
+
+unfoldable pub report : Sheet → Substitution → List ℕ
+report s g = clashLine ++ (each (upTo (length (s .limits))) (fieldLine s g) ++ each (upTo (length (s .equations))) (pairLine s g))
+
+-- The greatest sizes: six lines of fields with eight letters each, four of pairs with 24, and all.
+abbrev pub mostFieldLines : ℕ
+mostFieldLines = 6 * (6 + 2 + 8 + 1)
+
+abbrev pub mostPairLines : ℕ
+mostPairLines = 4 * (5 + 2 + 24 + 1)
+
+abbrev pub mostReport : ℕ
+mostReport = length clashLine + mostFieldLines + mostPairLines

@@ -1,0 +1,183 @@
+// Runs the vectors of standard input through `substitution::check` and `substitution::spell` and
+// prints for each its name, and the answer or document 01's number of the refusal; for a clash the
+// whole of `report::write`, and a line where its filling, loaded and stored again, differs. A line of
+// the file stdin is a vector's name, a colon, the sheet, a semicolon and the filling, their bytes in
+// hexadecimal with spaces between their parts. For a spelling there follow a semicolon, the pair and
+// the side, eight bytes each, and the length of the lent buffer, one byte. A line with no colon is a
+// heading and is printed as it is. The file stdout has document 01's answers.
+use hex::decode;
+use hex::find;
+use libc::STDIN_FILENO;
+use libc::STDOUT_FILENO;
+use scan::wide;
+use substitution::Checking;
+use substitution::Refusal;
+use substitution::Spelling;
+ghost use mathlib.Core.Path.{_≡_};
+ghost use mathlib.Core.List.{[], _∷_};
+ghost use Prim.Native.Nat.{_+_, _≤_};
+ghost use lib.ListN.{length};
+ghost use Rattle.model.specs.Calls.{finished, checking};
+
+// Room for a sheet's or a filling's bytes. Document 01 accepts none of more than 159; some vectors
+// have just over 256, so that a length that is kept in one byte would show.
+const ROOM: usize = 512;
+
+// What a spelling asks: a pair and a side of eight bytes each, and the buffer's length of one.
+const ASKED: usize = 17;
+
+// The longest buffer that is lent. Document 01's texts have at most 24 letters.
+const LENT: usize = 32;
+
+// The greatest sizes of a report and of a filling.
+const REPORT: usize = 236;
+
+const FILLING: usize = 54;
+
+// Shows each line of standard input, of which the first 65,536 bytes are read.
+fn main() {
+    let mut buf = io::large_buffer();
+    let n = io::read_full(STDIN_FILENO, &mut buf);
+    show_lines(&buf[..n]);
+}
+
+// Shows each line of a text.
+fn show_lines(text: &[u8]) {
+    let mut at = 0;
+    while at < text.len() {
+        let end = find(text, at, b'\n');
+        show_line(&text[at..end]);
+        at = end + 1;
+    }
+}
+
+// Prints a heading as it is, and for a vector its name and the answer.
+fn show_line(text: &[u8]) {
+    let colon = find(text, 0, b':');
+    io::write_all(STDOUT_FILENO, &text[..colon]);
+    if colon < text.len() {
+        show_vector(&text[colon..]);
+    } else {
+        io::write_all(STDOUT_FILENO, b"\n");
+    }
+}
+
+// Prints the answer to a vector: a sheet, a filling and, where a spelling is asked, a third part.
+fn show_vector(text: &[u8]) {
+    let first = find(text, 0, b';');
+    let second = find(text, after(text, first), b';');
+    let mut sheet = [0u8; ROOM];
+    let mut filling = [0u8; ROOM];
+    // The colon and the semicolons are no digits, and are passed over.
+    let n = decode(&text[..first], &mut sheet);
+    let m = decode(&text[first..second], &mut filling);
+    if second == text.len() {
+        show_check(&sheet[..n], &filling[..m]);
+    } else {
+        show_spell(&sheet[..n], &filling[..m], &text[second..]);
+    }
+}
+
+// The index after `at`, but none past the end of `text`.
+fn after(text: &[u8], at: usize) -> usize
+    requires { ⌜ at ≤ length (now text) ⌝ }
+    ensures { λ r. ⌜ at ≤ r ⌝ }
+    ensures { λ r. ⌜ r ≤ length (now (text .entry)) ⌝ }
+{
+    if at < text.len() { at + 1 } else { at }
+}
+
+// Prints what checking a filling answers, and the report of a clash.
+fn show_check(sheet: &[u8], filling: &[u8]) {
+    let checking = substitution::check(sheet, filling);
+    match checking {
+        Checking::Solves => {
+            show_report(sheet, filling);
+        }
+        Checking::DoesNot => {
+            io::write_all(STDOUT_FILENO, b": no clash\n");
+        }
+        Checking::Refused(refusal) => {
+            show_refusal(refusal);
+            io::write_all(STDOUT_FILENO, b"\n");
+        }
+    }
+}
+
+// Prints the report of a clash, which ends its last line itself.
+fn show_report(sheet: &[u8], filling: &[u8])
+    requires { ⌜ checking (now sheet) (now filling) ≡ finished (1 ∷ []) ⌝ }
+{
+    let mut buf = [0u8; REPORT];
+    let n = report::write(sheet, filling, &mut buf);
+    io::write_all(STDOUT_FILENO, b": ");
+    io::write_all(STDOUT_FILENO, &buf[..n]);
+    show_difference(sheet, filling);
+}
+
+// Loads a filling and stores it again, and prints a line where the bytes are not as they were.
+fn show_difference(sheet: &[u8], filling: &[u8])
+    requires { ⌜ checking (now sheet) (now filling) ≡ finished (1 ∷ []) ⌝ }
+{
+    let mut buf = [0u8; FILLING];
+    let fields = wide(sheet::four_counts(sheet).fields);
+    fields::store(&mut buf, fields::load(sheet, filling), fields);
+    if !words::same(&buf[..filling.len()], filling) {
+        io::write_all(STDOUT_FILENO, b"stored again, the filling differs\n");
+    }
+}
+
+// Lends a buffer full of dots, as long as is asked, and prints what spelling answers.
+fn show_spell(sheet: &[u8], filling: &[u8], text: &[u8]) {
+    let mut asked = [0u8; ASKED];
+    decode(text, &mut asked);
+    let mut buf = [b'.'; LENT];
+    let room = io::count(signed(asked[16]), &buf);
+    show_spelling(
+        sheet,
+        number(&asked, 0),
+        number(&asked, 8),
+        filling,
+        &mut buf[..room],
+    );
+}
+
+// Prints what spelling answers, and the lent buffer as it then is, between bars.
+fn show_spelling(sheet: &[u8], equation: usize, side: usize, filling: &[u8], buf: &mut [u8]) {
+    let spelling = substitution::spell(sheet, equation, side, filling, buf);
+    match spelling {
+        Spelling::Length(n) => {
+            io::write_all(STDOUT_FILENO, b": spelled ");
+            io::print_decimal(STDOUT_FILENO, n as u64);
+        }
+        Spelling::Refused(refusal) => show_refusal(refusal),
+    }
+    io::write_all(STDOUT_FILENO, b" |");
+    io::write_all(STDOUT_FILENO, buf);
+    io::write_all(STDOUT_FILENO, b"|\n");
+}
+
+// Prints that a call is refused, and document 01's number of the refusal.
+fn show_refusal(refusal: Refusal) {
+    io::write_all(STDOUT_FILENO, b": refused ");
+    let number = substitution::number(refusal);
+    io::print_decimal(STDOUT_FILENO, number as u64);
+}
+
+// The number of eight bytes, the high byte first.
+fn number(bytes: &[u8; ASKED], at: usize) -> usize
+    requires { ⌜ at + 8 ≤ 17 ⌝ }
+{
+    let mut n: usize = 0;
+    let mut i = at;
+    while i < at + 8 {
+        n = (n << 8) | wide(bytes[i]);
+        i += 1;
+    }
+    n
+}
+
+// A byte as what `io::count` takes.
+fn signed(x: u8) -> isize {
+    x as isize
+}

@@ -1,0 +1,82 @@
+//! Changes sheets so that a filling clashes in them, or nearly does. Of sheets made by chance
+//! hardly any clash.
+
+use crate::random::Random;
+use crate::reader::*;
+use crate::speller::{self, Filling};
+
+/// How often a template is sought that spells a text, before the other template is taken for it.
+const TRIES: usize = 8;
+
+/// Makes a filling clash: each right template comes to spell what the left one does, and each rule
+/// to hold, often only just.
+pub fn plant(random: &mut Random, sheet: &mut Sheet, filling: &Filling) {
+    for pair in &mut sheet.pairs {
+        let text = speller::text(&pair.left, filling);
+        let found = (0..TRIES).find_map(|_| template(random, &text, filling, &sheet.limits));
+        pair.right = found.unwrap_or_else(|| pair.left.clone());
+        if random.chance(50) {
+            std::mem::swap(&mut pair.left, &mut pair.right);
+        }
+    }
+    for rule in &mut sheet.rules {
+        let above = random.one_of(&[0, 0, 1, 2, 1000]);
+        rule.limit = speller::sum(rule, filling) as i16 + above;
+    }
+}
+
+/// A template that spells `text`, put together by chance; none if it came out too large.
+fn template(
+    random: &mut Random,
+    text: &[u8],
+    filling: &Filling,
+    limits: &[u8],
+) -> Option<Template> {
+    let mut template = Vec::new();
+    let mut rest = text;
+    while template.len() <= MOST_SYMBOLS {
+        let field = random.below(filling.len() + 1);
+        let after_field = filling
+            .get(field)
+            .and_then(|text| rest.strip_prefix(&text[..]));
+        let (symbol, after) = match (after_field, rest.split_first()) {
+            (Some(after), _) => (Symbol::Field(field as u8), after),
+            (None, Some((&letter, after))) => (Symbol::Letter(letter), after),
+            (None, None) => break,
+        };
+        template.push(symbol);
+        rest = after;
+    }
+    let fits = template.len() <= MOST_SYMBOLS && width(&template, limits) <= GREATEST_WIDTH;
+    fits.then_some(template)
+}
+
+/// Changes one template or one rule a little.
+pub fn spoil(random: &mut Random, sheet: &mut Sheet) {
+    if !sheet.rules.is_empty() && random.chance(40) {
+        let rule = random.below(sheet.rules.len());
+        let limit = &mut sheet.rules[rule].limit;
+        *limit = limit.saturating_sub(1);
+        return;
+    }
+    let pair = random.below(sheet.pairs.len());
+    let pair = &mut sheet.pairs[pair];
+    let template = if random.chance(50) {
+        &mut pair.left
+    } else {
+        &mut pair.right
+    };
+    if template.is_empty() {
+        return;
+    }
+    let symbol = random.below(template.len());
+    match template[symbol] {
+        Symbol::Letter(_) if random.chance(50) => {
+            template[symbol] = Symbol::Letter(random.below(sheet.letters.len()) as u8);
+        }
+        _ if random.chance(50) => template.swap(symbol, 0),
+        _ => {
+            template.remove(symbol);
+        }
+    }
+}

@@ -1,0 +1,128 @@
+//! The test as a whole: holds the library's answers to the plain ones and counts them.
+
+use crate::engine::{self, Outcome};
+use crate::random::Random;
+use crate::reader;
+use crate::refusal::Refusal;
+use crate::report::{require, Case, Hex};
+use crate::speller::{self, Spelling, Verdict};
+use crate::tally::Tally;
+use std::fmt::Debug;
+
+pub struct Test {
+    pub random: Random,
+    read: Tally,
+    check: Tally,
+    spell: Tally,
+}
+
+impl Test {
+    pub fn new() -> Test {
+        let check_answers = [
+            "clash",
+            "no clash, the first pair differs",
+            "no clash, a later pair is the first to differ",
+            "no clash, only a rule breaks",
+        ];
+        let spell_answers = ["empty text", "text of 1 to 23", "text of 24"];
+        Test {
+            random: Random::new(1),
+            read: Tally::new("tpl_read", &["accepted"], 1..=15),
+            check: Tally::new("tpl_check", &check_answers, (1..=15).chain(20..=23)),
+            spell: Tally::new("tpl_spell", &spell_answers, (1..=15).chain(20..=26)),
+        }
+    }
+
+    /// Runs one part and says how many answers it compared.
+    pub fn part(&mut self, name: &str, run: fn(&mut Test)) {
+        let before = self.compared();
+        run(self);
+        println!("outside: {name}: {}", self.compared() - before);
+    }
+
+    fn compared(&self) -> usize {
+        self.read.total() + self.check.total() + self.spell.total()
+    }
+
+    /// Compares how a sheet is read.
+    pub fn read(&mut self, sheet: &[u8]) {
+        let (status, counts, answer) = match reader::read(sheet) {
+            Ok(accepted) => (0, accepted.counts(), Ok("accepted")),
+            Err(refusal) => (status(refusal), engine::COUNTS_BEFORE, Err(refusal as u8)),
+        };
+        let case: &Case = &[("sheet", &Hex(sheet))];
+        hold(engine::read(sheet), due(status, &counts), case);
+        self.read.count(answer);
+    }
+
+    /// Compares how a filling is checked.
+    pub fn check(&mut self, sheet: &[u8], filling: &[u8]) {
+        let (status, answer) = match speller::check(sheet, filling) {
+            Ok(Verdict::Clash) => (1, Ok("clash")),
+            Ok(Verdict::PairDiffers(0)) => (0, Ok("no clash, the first pair differs")),
+            Ok(Verdict::PairDiffers(_)) => (0, Ok("no clash, a later pair is the first to differ")),
+            Ok(Verdict::RuleBreaks(_)) => (0, Ok("no clash, only a rule breaks")),
+            Err(refusal) => (status(refusal), Err(refusal as u8)),
+        };
+        let case: &Case = &[("sheet", &Hex(sheet)), ("filling", &Hex(filling))];
+        hold(engine::check(sheet, filling), due(status, &[]), case);
+        self.check.count(answer);
+    }
+
+    /// Compares how a template is spelled.
+    pub fn spell(&mut self, asked: Spelling) {
+        let mut buffer = engine::text_before(asked.room);
+        let (status, answer) = match speller::spell(asked) {
+            Ok(text) => {
+                buffer[..text.len()].copy_from_slice(&text);
+                let answer = match text.len() {
+                    0 => "empty text",
+                    24 => "text of 24",
+                    _ => "text of 1 to 23",
+                };
+                (text.len() as i64, Ok(answer))
+            }
+            Err(refusal) => (status(refusal), Err(refusal as u8)),
+        };
+        let case: &Case = &[("asked", &asked)];
+        hold(engine::spell(asked), due(status, &buffer), case);
+        self.spell.count(answer);
+    }
+
+    /// Prints how often each answer came up, and fails if one came up too seldom.
+    pub fn finish(&self) {
+        for tally in [&self.read, &self.check, &self.spell] {
+            tally.finish();
+        }
+        println!(
+            "outside: the library agrees on {} sheets, {} fillings and {} spellings",
+            self.read.total(),
+            self.check.total(),
+            self.spell.total()
+        );
+    }
+}
+
+/// What a call returns for a refusal.
+fn status(refusal: Refusal) -> i64 {
+    -(refusal as i64)
+}
+
+/// What a call is to answer and leave behind.
+fn due<T: Clone>(status: i64, lent: &[T]) -> Outcome<T> {
+    Outcome {
+        status,
+        lent: lent.to_vec(),
+        rest_unchanged: true,
+    }
+}
+
+/// Fails if the library did not answer what is due.
+fn hold<T: PartialEq + Debug>(got: Outcome<T>, due: Outcome<T>, case: &Case) {
+    let answers: &Case = &[("plain", &due), ("library", &got)];
+    require(
+        got == due,
+        "the library's answer to this is not the plain one",
+        &[case, answers].concat(),
+    );
+}
