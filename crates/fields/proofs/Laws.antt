@@ -142,9 +142,14 @@ all-set P [] i a h p = h
 all-set P (x ∷ xs) zero a h p = (p, h .1)
 all-set P (x ∷ xs) (suc i) a h p = (h .0, all-set P xs i a (h .1) p)
 
+all-alike : {A : Type 0} (P : A → Type 0) (n : ℕ) (a : A) → P a → All P (replicate n a)
+unfolding All
+all-alike P zero a p = tt
+all-alike P (suc n) a p = (p, all-alike P n a p)
+
 loaded-whole : (n : ℕ) (b : List ℕ) → ((f : ℕ) → f < n → Whole (fieldAt b (9 * f))) → All Whole (loaded n b)
-unfolding loaded All
-loaded-whole zero b h = let e = text-whole [] (omega arith) in (e, (e, (e, (e, (e, (e, tt))))))
+unfolding loaded
+loaded-whole zero b h = all-alike Whole 6 (fieldOf []) (text-whole [] (omega arith))
 loaded-whole (suc n) b h = all-set Whole (loaded n b) n (fieldAt b (9 * n)) (loaded-whole n b (λ f i. h f (omega arith))) (h n (omega arith))
 
 module _ (s : Sheet) (m : List ℕ) (r : InRange s) {g : Substitution} {xs : List ℕ} (e : filling s m ≡ got g xs) where

@@ -1,6 +1,6 @@
 -- Words over a sheet's letters are equal exactly when their letter bytes are: the letters strictly rise. So comparing letter numbers is
 -- comparing texts. Assumes nothing.
-use mathlib.Core.Path.{_≡_, refl, sym, ap, _∙_}
+use mathlib.Core.Path.{_≡_, refl, ap}
 use mathlib.Core.List.{List, [], _∷_}
 use Prim.Native.Nat.{ℕ, zero, suc, _<_}
 use native.Mathlib.Omega.{arith}

@@ -198,8 +198,12 @@ from-more a (suc n) =
     let k : suc a + n ≡ a + suc n = omega arith in
     rw e (ap (λ xs. a ∷ xs) (from-more (suc a) n ∙ ap (λ m. from (suc a) n ++ (m ∷ [])) k))
 
--- what is written of the numbers below n: one more, and no more than n times what one takes
+-- what is written of the numbers below n: of none, of one more, and no more than n times what one takes
 module _ {A : Type 0} (h : ℕ → List A) where
+  pub each-none : each (upTo 0) h ≡ []
+  unfolding each from
+  each-none = refl
+
   pub each-more : (n : ℕ) → each (upTo (n + 1)) h ≡ each (upTo n) h ++ h n
   unfolding each
   each-more n =

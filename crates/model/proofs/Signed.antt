@@ -66,7 +66,10 @@ pub signed16-in : (z : ℤ) → Signed 32768 z → Signed16 z
 signed16-in (pos n) h = omega arith
 signed16-in (negsuc n) h = omega arith
 
--- a coefficient is a byte's signed number
+-- a number of small magnitude is one; so a coefficient is a byte's signed number
+pub abs-signed : (half : ℕ) (z : ℤ) → natAbs z < half → Signed half z
+abs-signed half (pos n) h = h
+abs-signed half (negsuc n) h = omega arith
+
 pub small-signed : (z : ℤ) → natAbs z ≤ 4 → Signed 128 z
-small-signed (pos n) h = omega arith
-small-signed (negsuc n) h = omega arith
+small-signed z h = abs-signed 128 z (omega arith)

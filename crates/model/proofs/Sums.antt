@@ -14,7 +14,7 @@ use Rattle.model.specs.Word.{Substitution, text, weight}
 use Rattle.model.proofs.Lists.{by-test, at}
 
 -- the magnitude of a sum and of a product
-abs-neg : (n : ℕ) → natAbs (negℤ (pos n)) ≡ n
+pub abs-neg : (n : ℕ) → natAbs (negℤ (pos n)) ≡ n
 abs-neg zero = refl
 abs-neg (suc n) = refl
 

@@ -89,6 +89,10 @@ unfolding solves keeps
 solves-parts s g = ap (λ b. all (equationHolds s g) (s .equations) && b) (and-true (all (constraintHolds s g) (s .constraints)))
 
 -- The word of a template, symbol by symbol.
+pub spell-none : (g : Substitution) → spell g [] ≡ []
+unfolding spell each
+spell-none g = refl
+
 pub spell-more : (g : Substitution) (t : List Symbol) (i : ℕ) (d : Symbol) → i < length t → spell g (take (i + 1) t) ≡ spell g (take i t) ++ symbolWord g (getD t i d)
 unfolding spell each
 spell-more g t i d h =

@@ -10,8 +10,8 @@ use Rattle.model.specs.Word.{text, letterBytes, spell}
 use Rattle.model.specs.Filling.{filling}
 use Rattle.model.specs.Report.{line, fieldName, fieldLine, pairName, pairLine}
 use Rattle.model.specs.Calls.{finished, checking}
-use Rattle.model.proofs.Lists.{each-more, each-short}
-use Rattle.model.proofs.Seams.{Written, more}
+use Rattle.model.proofs.Lists.{each-none, each-more, each-short}
+use Rattle.model.proofs.Seams.{Written, nothing, more}
 use Rattle.model.proofs.Templates.{template-room}
 use Rattle.model.proofs.Passed.{answered, filling-read}
 use Rattle.fields.specs.declared.Field.{Field}
@@ -28,7 +28,10 @@ line-length name n t =
     let b = length-append t (10 ∷ []) in
     omega arith
 
--- one line more
+-- no line yet, and one line more
+pub no-lines : (h : ℕ → List ℕ) (s : List ℕ) (start : ℕ) → Written s start (each (upTo 0) h) s start
+no-lines h s start = subst (λ p. Written s start p s start) (sym (each-none h)) (nothing s start)
+
 pub next-line : (h : ℕ → List ℕ) (n : ℕ) {s b : List ℕ} {start at : ℕ} (b′ : List ℕ) (at′ : ℕ) → Written s start (each (upTo n) h) b at
     → Puts b at (h n) b′ at′ → length b′ ≡ length b → start + length (each (upTo n) h) + length (h n) ≤ length s
     → Written s start (each (upTo (n + 1)) h) b′ at′

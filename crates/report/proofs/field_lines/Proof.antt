@@ -6,15 +6,15 @@ use native.Mathlib.Omega.{arith}
 use lib.ListN.{length, take, length-map}
 use lib.Seq.{length-take-le}
 use borrow.Author.Needs.{needs}
-use Rattle.model.specs.Lists.{each, upTo, from, All, Puts}
+use Rattle.model.specs.Lists.{each, upTo, All, Puts}
 use Rattle.model.specs.Sheet.{Counts, sheetOf, letterOf}
 use Rattle.model.specs.Word.{text, letterBytes}
 use Rattle.model.specs.Report.{line, fieldName, fieldLine}
-use Rattle.model.proofs.Seams.{Written, nothing}
+use Rattle.model.proofs.Seams.{Written}
 use Rattle.fields.specs.declared.Field.{Field}
 use Rattle.fields.specs.Memory.{textOf, field, Whole, meaning}
 use Rattle.substitution.proofs.Meaning.{text-at, field-whole}
-use Rattle.report.proofs.Sizes.{line-length, field-size, fields-size, next-line}
+use Rattle.report.proofs.Sizes.{line-length, field-size, fields-size, no-lines, next-line}
 use Rattle.report.proofs.field_lines.Statement.{statement}
 use Rattle.report.proofs.field_lines.Tie as tie
 
@@ -30,10 +30,9 @@ four-counts-requires c κs =
     at-start .pre .0 .accepted
 
 loop-holds : tie.Need-loop-holds Inv-loop μ-loop
-unfolding each from
 loop-holds c =
     let at-start = c .before .before .before in
-    (omega arith, nothing (at-start .args .buf .now) (at-start .args .at))
+    (omega arith, no-lines (fieldLine (sheetOf (at-start .args .sheet .now)) (meaning (at-start .args .sheet .now) (at-start .args .t4))) (at-start .args .buf .now) (at-start .args .at))
 
 -- as many as the sheet has
 counted : (c : tie.After-four-counts Inv-loop μ-loop) → c .four-counts .result .fields ≡ length (sheetOf (c .before .before .before .args .sheet .now) .limits)

@@ -5,16 +5,16 @@ use Prim.Native.Nat.{ℕ, _+_, _-_, _<_, _≤_}
 use native.Mathlib.Omega.{arith}
 use lib.ListN.{length, take, replicate, length-map}
 use borrow.Author.Needs.{needs}
-use Rattle.model.specs.Lists.{each, upTo, from, All, Puts}
+use Rattle.model.specs.Lists.{each, upTo, All, Puts}
 use Rattle.model.specs.Sheet.{Counts, sheetOf, letterOf, equation, template, symbolOf}
 use Rattle.model.specs.Word.{spell, letterBytes}
 use Rattle.model.specs.Report.{line, pairName, pairLine}
-use Rattle.model.proofs.Seams.{Written, nothing, front-is, front-fits, front-length}
+use Rattle.model.proofs.Seams.{Written, front-is, front-fits, front-length}
 use Rattle.model.proofs.Templates.{template-in}
 use Rattle.model.proofs.Words.{spell-over}
 use Rattle.fields.specs.Memory.{textsOf, meaning}
 use Rattle.substitution.proofs.Meaning.{word-is, can-spell}
-use Rattle.report.proofs.Sizes.{line-length, pair-size, pairs-size, next-line}
+use Rattle.report.proofs.Sizes.{line-length, pair-size, pairs-size, no-lines, next-line}
 use Rattle.report.proofs.pair_lines.Statement.{statement}
 use Rattle.report.proofs.pair_lines.Tie as tie
 
@@ -30,10 +30,9 @@ four-counts-requires c κs =
     at-start .pre .0 .accepted
 
 loop-holds : tie.Need-loop-holds Inv-loop μ-loop
-unfolding each from
 loop-holds c =
     let at-start = c .before .before .before in
-    (omega arith, nothing (at-start .args .buf .now) (at-start .args .at))
+    (omega arith, no-lines (pairLine (sheetOf (at-start .args .sheet .now)) (meaning (at-start .args .sheet .now) (at-start .args .g))) (at-start .args .buf .now) (at-start .args .at))
 
 -- as many as the sheet has
 counted : (c : tie.After-four-counts Inv-loop μ-loop) → c .four-counts .result .equations ≡ length (sheetOf (c .before .before .before .args .sheet .now) .equations)

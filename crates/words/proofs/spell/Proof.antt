@@ -5,10 +5,10 @@ use Prim.Native.Nat.{_+_, _-_, _<_, _≤_}
 use native.Mathlib.Omega.{arith}
 use lib.ListN.{length, getD, take, length-map}
 use lib.Seq.{take-all}
-use Rattle.model.specs.Lists.{each}
 use Rattle.model.specs.Sheet.{symbolOf}
 use Rattle.model.specs.Word.{spell, symbolWord}
 use Rattle.model.proofs.Lists.{at}
+use Rattle.model.proofs.Words.{spell-none}
 use Rattle.model.proofs.Seams.{Written, nothing, more}
 use Rattle.fields.specs.Memory.{textsOf}
 use Rattle.words.proofs.Symbols.{spelled-more, spelled-room}
@@ -22,10 +22,10 @@ abbrev μ-loop : tie.MeasureT-loop
 μ-loop word₀ template g at₀ i₀ word at i = length template - i
 
 loop-holds : tie.Need-loop-holds Inv-loop μ-loop
-unfolding spell each
 loop-holds c =
     let at-start = c .before .before in
-    (omega arith, nothing (at-start .args .word .now) 0)
+    let word = at-start .args .word .now in
+    (omega arith, subst (λ p. Written word 0 p word 0) (sym (spell-none (textsOf (at-start .args .g)))) (nothing word 0))
 
 shared-slice-read-put-symbol : tie.Need-shared-slice-read-put-symbol Inv-loop μ-loop
 shared-slice-read-put-symbol c = omega arith

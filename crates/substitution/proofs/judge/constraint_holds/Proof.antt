@@ -6,9 +6,10 @@ use mir.Syntax.{w16}
 use mir.Val.{toZ, ofZ}
 use Rattle.model.specs.Sheet.{sheetOf, constraint}
 use Rattle.model.specs.Word.{weight, constraintHolds}
+use Rattle.scan.proofs.Machine.{small-back}
 use Rattle.fields.specs.Memory.{meaning}
 use Rattle.substitution.proofs.Meaning.{limited, sum-small}
-use Rattle.substitution.proofs.Terms.{back, most-back}
+use Rattle.substitution.proofs.Terms.{most-back}
 use Rattle.substitution.proofs.judge.constraint_holds.Statement.{statement}
 use Rattle.substitution.proofs.judge.constraint_holds.Tie as tie
 
@@ -28,7 +29,7 @@ returns c =
     let v = length (sheetOf (a .sheet .now) .limits) in
     let r = constraint (sheetOf (a .sheet .now)) (a .r) in
     let small = sum-small (a .sheet .now) (a .g) (at-start .pre .0) (a .r) (at-start .pre .1) v (omega arith) in
-    let sum = ap (λ z. toZ w16 (ofZ w16 z)) (c .before .weigh .ensures) ∙ back w16 (weight r (meaning (a .sheet .now) (a .g)) v) (omega arith) in
+    let sum = ap (λ z. toZ w16 (ofZ w16 z)) (c .before .weigh .ensures) ∙ small-back w16 (weight r (meaning (a .sheet .now) (a .g)) v) (omega arith) in
     let most = ap (λ z. toZ w16 (ofZ w16 z)) (c .most .ensures) ∙ most-back (r .most) (limited (a .sheet .now) (a .g) (at-start .pre .0) (a .r) (at-start .pre .1) .most-in) in
     rw (sum, most)
 

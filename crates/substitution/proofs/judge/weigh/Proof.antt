@@ -10,9 +10,10 @@ use mir.Val.{toZ, ofZ}
 use Rattle.model.specs.Sheet.{Counts, sheetOf, constraint}
 use Rattle.model.specs.Word.{weight}
 use Rattle.model.proofs.Sums.{weight-more}
+use Rattle.scan.proofs.Machine.{small-fits, small-back}
 use Rattle.fields.specs.Memory.{field, meaning}
 use Rattle.substitution.proofs.Meaning.{field-whole, length-at, small-at, sum-small}
-use Rattle.substitution.proofs.Terms.{fits, back, wide-fits, product-fits, product-back}
+use Rattle.substitution.proofs.Terms.{wide-fits, product-fits, product-back}
 use Rattle.substitution.proofs.judge.weigh.Statement.{statement}
 use Rattle.substitution.proofs.judge.weigh.Tie as tie
 
@@ -57,7 +58,7 @@ element-copy-out-len c =
 cast-len : tie.Need-cast-len Inv-loop μ-loop
 cast-len c =
     let at-start = c .before .before .before .before .before in
-    fits w16 (pos (field (at-start .args .t3) (c .before .loop .f) .len)) (omega (arith, short c))
+    small-fits w16 (pos (field (at-start .args .t3) (c .before .loop .f) .len)) (omega (arith, short c))
 
 coefficient-requires : tie.Need-coefficient-requires Inv-loop μ-loop
 coefficient-requires c κs =
@@ -96,7 +97,7 @@ next c =
     let a = at-start .args in
     let l = at-loop in
     let in-loop = c .before in
-    let sum = ap (toZ w16) (l .inv .1) ∙ back w16 (sum-of c (l .f)) (omega (arith, sum-fits c (l .f) (omega (arith, is-field in-loop)))) in
+    let sum = ap (toZ w16) (l .inv .1) ∙ small-back w16 (sum-of c (l .f)) (omega (arith, sum-fits c (l .f) (omega (arith, is-field in-loop)))) in
     let term = product-back (c .coefficient .result) (field (a .t3) (l .f) .len) (small c) (short in-loop) in
     let n = length-at (a .sheet .now) (a .t3) (at-start .pre .0) (l .f) (is-field in-loop) in
     rw (sum, term, c .coefficient .ensures, ← n) (sym (weight-more (constraint (sheetOf (a .sheet .now)) (a .r)) (meaning (a .sheet .now) (a .t3)) (l .f)))
@@ -104,7 +105,7 @@ next c =
 add-sum : tie.Need-add-sum Inv-loop μ-loop
 add-sum c =
     let at-loop = c .before .before .loop in
-    rw (next c) (fits w16 (sum-of c (at-loop .f + 1)) (omega (arith, sum-fits c (at-loop .f + 1) (omega (arith, is-field (c .before))))))
+    rw (next c) (small-fits w16 (sum-of c (at-loop .f + 1)) (omega (arith, sum-fits c (at-loop .f + 1) (omega (arith, is-field (c .before))))))
 
 add-f : tie.Need-add-f Inv-loop μ-loop
 add-f c = omega arith
@@ -124,7 +125,7 @@ returns c =
     let z = weight (constraint (sheetOf (a .sheet .now)) (a .r)) (meaning (a .sheet .now) (a .t3)) in
     let e : l .f ≡ length (sheetOf (a .sheet .now) .limits) = omega (arith, counted after-wide) in
     let h = sum-small (a .sheet .now) (a .t3) (at-start .pre .0) (a .r) (at-start .pre .1) (l .f) (omega arith) in
-    ap (toZ w16) (l .inv .1) ∙ back w16 (z (l .f)) (omega arith) ∙ ap z e
+    ap (toZ w16) (l .inv .1) ∙ small-back w16 (z (l .f)) (omega arith) ∙ ap z e
 
 pub weigh-spec : {M : Type 1} → statement M
 weigh-spec =
