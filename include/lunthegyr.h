@@ -53,6 +53,25 @@ int64_t tpl_check(const uint8_t *sheet, size_t n, const uint8_t *filling, size_t
 int64_t tpl_spell(const uint8_t *sheet, size_t n, uint64_t pair, uint64_t side, const uint8_t *filling, size_t m, uint8_t *text,
                   size_t cap);
 
+/* A sheet's clause file asks a SAT solver for a clash. It is text in the DIMACS CNF form: line 0 is "p cnf", the number of variables and
+ * the number of clauses; then each clause is a line. Every line ends in a line feed.
+ */
+
+/* Counts what is in a sheet's clause file. Returns 0, with the number of variables in counts[0], the number C of clauses in counts[1], and
+ * (C + 1) * 80 in counts[2], which is at least the file's size in bytes; or minus the number of the first refusal, which is one of
+ * tpl_read's.
+ */
+int64_t tpl_count(const uint8_t *sheet, size_t n, uint64_t counts[3]);
+
+/* Writes one line of a sheet's clause file, with its line feed, into a buffer of cap bytes. Lines count from 0 to C, the number of clauses;
+ * line may be any number. Returns the line's length, with the line in the first bytes of the buffer and the later ones unchanged. No zero
+ * byte is added. A buffer of 80 is always long enough.
+ * Or it returns minus the number of the first refusal, which is one of tpl_read's, or else, in this order:
+ *   28 no line has this number
+ *   29 buffer shorter than the line
+ */
+int64_t tpl_line(const uint8_t *sheet, size_t n, uint64_t line, uint8_t *text, size_t cap);
+
 #ifdef __cplusplus
 }
 #endif

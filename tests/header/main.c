@@ -51,13 +51,46 @@ static void spelling(void) {
     expect(text[0] == 'A' && text[1] == '.', "X=A is spelled A, and the next byte stays");
 }
 
+static void counting(void) {
+    uint64_t counts[4] = { 5, 6, 7, 8 };
+    expect(tpl_count(sheet, 16, counts) == -9, "counting reads the sheet first");
+    expect(is(counts, 5, 6, 7, 8), "a refusal leaves the clause counts");
+    expect(tpl_count(sheet, 15, counts) == 0, "P's clauses are counted");
+    expect(is(counts, 6, 8, 720, 8), "P has 6 variables, 8 clauses and an allowance of 720, and no fourth count is written");
+}
+
+/* P's clause file, line by line. */
+static const char *const lines[9] = {
+    "p cnf 6 8\n", "1 2 0\n", "-1 -2 0\n", "3 0\n", "-3 -2 5 0\n", "-3 2 6 0\n", "-4 -2 6 0\n", "-4 2 0\n", "-5 0\n"
+};
+
+static void writing(void) {
+    uint8_t text[80], before[80];
+    memset(before, '.', sizeof before);
+    memcpy(text, before, sizeof text);
+    expect(tpl_line(sheet, 16, 0, text, 80) == -9, "writing a line reads the sheet first");
+    expect(tpl_line(sheet, 15, 9, text, 80) == -28, "line 9 of P is refused with 28");
+    expect(tpl_line(sheet, 15, UINT64_MAX, text, 0) == -28, "28 comes before 29");
+    expect(tpl_line(sheet, 15, 0, text, 9) == -29, "nine bytes for line 0 are refused with 29");
+    expect(memcmp(text, before, sizeof text) == 0, "a refusal leaves the line's buffer");
+    for (uint64_t n = 0; n < 9; n++) {
+        size_t length = strlen(lines[n]);
+        memcpy(text, before, sizeof text);
+        expect(tpl_line(sheet, 15, n, text, n % 2 ? 80 : length) == (int64_t)length, "a line of P has its length");
+        expect(memcmp(text, lines[n], length) == 0, "a line of P is as it must be");
+        expect(memcmp(text + length, before, sizeof text - length) == 0, "the bytes after a line stay");
+    }
+}
+
 int main(void) {
     reading();
     checking();
     spelling();
+    counting();
+    writing();
     if (!all_passed) {
         return 1;
     }
-    puts("C header: the three calls answer as they must on P");
+    puts("C header: the five calls answer as they must on P");
     return 0;
 }

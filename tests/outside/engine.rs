@@ -23,6 +23,13 @@ extern "C" {
         text: *mut u8,
         cap: usize,
     ) -> i64;
+
+    /// Answers 0 and the counts of variables and clauses and the size allowance, or minus the
+    /// refusal's number and no counts.
+    fn tpl_count(sheet: *const u8, n: usize, counts: *mut u64) -> i64;
+
+    /// Answers the line's length and the line, or minus the refusal's number and no line.
+    fn tpl_line(sheet: *const u8, n: usize, line: u64, text: *mut u8, cap: usize) -> i64;
 }
 
 /// What one call answered and left behind.
@@ -45,7 +52,7 @@ impl<T: fmt::Debug> fmt::Display for Outcome<T> {
     }
 }
 
-/// What the counts hold before a call.
+/// What the counts hold before a call; `tpl_count` is lent the first three.
 pub const COUNTS_BEFORE: [u64; 4] = [
     u64::MAX,
     0xA5A5_A5A5_A5A5_A5A5,
@@ -53,8 +60,8 @@ pub const COUNTS_BEFORE: [u64; 4] = [
     1 << 63,
 ];
 
-/// What a text buffer of `room` bytes holds before a call: no letter, and never one byte twice in
-/// a row.
+/// What a text buffer of `room` bytes holds before a call: no letter and no byte of a line, and
+/// never one byte twice in a row.
 pub fn text_before(room: usize) -> Vec<u8> {
     (0..room).map(|place| 128 + (place % 125) as u8).collect()
 }
@@ -65,7 +72,7 @@ const SHEET_MARGIN: [u8; 16] = margin(0);
 const FILLING_MARGIN: [u8; 16] = margin(255);
 /// Without letters, so that a letter written past the end shows.
 const TEXT_MARGIN: [u8; 16] = margin(165);
-const COUNTS_MARGIN: [u64; 2] = [0, 0xC3C3_C3C3_C3C3_C3C3];
+const COUNTS_MARGIN: [u64; 2] = [0x3C3C_3C3C_3C3C_3C3C, 0xC3C3_C3C3_C3C3_C3C3];
 
 /// Sixteen bytes, no two the same.
 const fn margin(first: u8) -> [u8; 16] {
@@ -133,5 +140,31 @@ pub fn spell(asked: Spelling) -> Outcome<u8> {
         status,
         lent: text.content().to_vec(),
         rest_unchanged: bytes.unchanged() && fields.unchanged() && text.margins_unchanged(),
+    }
+}
+
+/// Calls `tpl_count` on a copy of `sheet`.
+pub fn count(sheet: &[u8]) -> Outcome<u64> {
+    let mut bytes = Lent::new(sheet, &SHEET_MARGIN);
+    let mut counts = Lent::new(&COUNTS_BEFORE[..3], &COUNTS_MARGIN);
+    // The pointers lead to `sheet.len()` bytes and to three numbers.
+    let status = unsafe { tpl_count(bytes.pointer(), sheet.len(), counts.pointer()) };
+    Outcome {
+        status,
+        lent: counts.content().to_vec(),
+        rest_unchanged: bytes.unchanged() && counts.margins_unchanged(),
+    }
+}
+
+/// Calls `tpl_line` on a copy of `sheet`, with a buffer of `room` bytes.
+pub fn line(sheet: &[u8], number: u64, room: usize) -> Outcome<u8> {
+    let mut bytes = Lent::new(sheet, &SHEET_MARGIN);
+    let mut text = Lent::new(&text_before(room), &TEXT_MARGIN);
+    // The pointers lead to `sheet.len()` and `room` bytes.
+    let status = unsafe { tpl_line(bytes.pointer(), sheet.len(), number, text.pointer(), room) };
+    Outcome {
+        status,
+        lent: text.content().to_vec(),
+        rest_unchanged: bytes.unchanged() && text.margins_unchanged(),
     }
 }

@@ -1,5 +1,7 @@
 //! Compares the static library with plain answers to the same calls, some hundred thousand times
-//! each, and ends with status 1 at the first case on which the two differ.
+//! each, and ends with status 1 at the first case on which the two differ. With the word `clauses`
+//! it tests nothing, and prints the clause file of the sheet on standard input from the plain
+//! writer.
 
 mod brute;
 mod changes;
@@ -15,17 +17,36 @@ mod reader;
 mod reading;
 mod refusal;
 mod report;
+mod shapes;
 mod sheets;
 mod speller;
 mod tally;
 mod test;
+mod writer;
+mod writing;
 
-fn main() {
+use std::io::{self, Read};
+
+fn main() -> io::Result<()> {
+    match std::env::args().nth(1).as_deref() {
+        None => test_all(),
+        Some("clauses") => {
+            let mut sheet = Vec::new();
+            io::stdin().read_to_end(&mut sheet)?;
+            writer::print(&sheet)?;
+        }
+        Some(word) => panic!("no such word: {word}"),
+    }
+    Ok(())
+}
+
+fn test_all() {
     let mut test = test::Test::new();
     reading::run(&mut test);
     examples::run(&mut test);
     orders::run(&mut test);
     checking::run(&mut test);
     brute::run(&mut test.random);
+    writing::run(&mut test);
     test.finish();
 }

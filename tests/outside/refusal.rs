@@ -24,4 +24,6 @@ pub enum Refusal {
     PairNumber = 24,
     Side = 25,
     BufferTooShort = 26,
+    LineNumber = 28,
+    BufferBelowLine = 29,
 }

@@ -5,8 +5,10 @@ use crate::random::Random;
 use crate::reader;
 use crate::refusal::Refusal;
 use crate::report::{require, Case, Hex};
+use crate::shapes;
 use crate::speller::{self, Spelling, Verdict};
 use crate::tally::Tally;
+use crate::writer::{Written, KINDS};
 use std::fmt::Debug;
 
 pub struct Test {
@@ -14,6 +16,9 @@ pub struct Test {
     read: Tally,
     check: Tally,
     spell: Tally,
+    count: Tally,
+    line: Tally,
+    shapes: Tally,
 }
 
 impl Test {
@@ -30,6 +35,13 @@ impl Test {
             read: Tally::new("tpl_read", &["accepted"], 1..=15),
             check: Tally::new("tpl_check", &check_answers, (1..=15).chain(20..=23)),
             spell: Tally::new("tpl_spell", &spell_answers, (1..=15).chain(20..=26)),
+            count: Tally::new("tpl_count", &["counted"], 1..=15),
+            line: Tally::new("tpl_line", &KINDS, (1..=15).chain(28..=29)),
+            shapes: Tally::new(
+                "counted sheets with",
+                &shapes::ALL.map(|shape| shape.0),
+                0..0,
+            ),
         }
     }
 
@@ -41,7 +53,17 @@ impl Test {
     }
 
     fn compared(&self) -> usize {
-        self.read.total() + self.check.total() + self.spell.total()
+        self.calls().iter().map(|tally| tally.total()).sum()
+    }
+
+    fn calls(&self) -> [&Tally; 5] {
+        [
+            &self.read,
+            &self.check,
+            &self.spell,
+            &self.count,
+            &self.line,
+        ]
     }
 
     /// Compares how a sheet is read.
@@ -89,16 +111,62 @@ impl Test {
         self.spell.count(answer);
     }
 
+    /// Compares how clauses are counted.
+    pub fn count(&mut self, written: &Written) {
+        let (status, counts, answer) = match &written.file {
+            Ok(file) => (0, file.counts().to_vec(), Ok("counted")),
+            Err(refusal) => {
+                let counts = engine::COUNTS_BEFORE[..3].to_vec();
+                (status(*refusal), counts, Err(*refusal as u8))
+            }
+        };
+        let case: &Case = &[("sheet", &Hex(&written.sheet))];
+        hold(engine::count(&written.sheet), due(status, &counts), case);
+        self.count.count(answer);
+        if let Ok(sheet) = reader::read(&written.sheet) {
+            for shape in shapes::of(&sheet) {
+                self.shapes.count(Ok(shape));
+            }
+        }
+    }
+
+    /// Compares how line `number` is written into a buffer of `room` bytes.
+    pub fn line(&mut self, written: &Written, number: u64, room: usize) {
+        let mut buffer = engine::text_before(room);
+        let (status, answer) = match written.line(number, room) {
+            Ok(line) => {
+                buffer[..line.bytes.len()].copy_from_slice(&line.bytes);
+                (line.bytes.len() as i64, Ok(line.kind))
+            }
+            Err(refusal) => (status(refusal), Err(refusal as u8)),
+        };
+        let sheet = &written.sheet;
+        let case: &Case = &[
+            ("sheet", &Hex(sheet)),
+            ("line", &number),
+            ("buffer of", &room),
+        ];
+        hold(
+            engine::line(sheet, number, room),
+            due(status, &buffer),
+            case,
+        );
+        self.line.count(answer);
+    }
+
     /// Prints how often each answer came up, and fails if one came up too seldom.
     pub fn finish(&self) {
-        for tally in [&self.read, &self.check, &self.spell] {
+        for tally in self.calls().into_iter().chain([&self.shapes]) {
             tally.finish();
         }
         println!(
-            "outside: the library agrees on {} sheets, {} fillings and {} spellings",
+            "outside: the library agrees on {} sheets, {} fillings, {} spellings, {} clause counts \
+             and {} lines",
             self.read.total(),
             self.check.total(),
-            self.spell.total()
+            self.spell.total(),
+            self.count.total(),
+            self.line.total()
         );
     }
 }

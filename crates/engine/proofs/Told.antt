@@ -1,18 +1,19 @@
 -- What the numbers that the calls return tell their callers: 0 of `tpl_read` is for an accepted sheet and no other, 1 of `tpl_check` for a
--- filling that solves its sheet and no other, 0 for one that does not, and a number of `tpl_spell` from 0 on is a text's length. Assumes
--- nothing.
+-- filling that solves its sheet and no other, 0 for one that does not, and a number of `tpl_spell` from 0 on is a text's length. So is one
+-- of `tpl_line` a line's length, and 0 of `tpl_count` is for an accepted sheet and no other. Assumes nothing.
 use mathlib.Core.Path.{_≡_, refl, sym, ap, _∙_}
 use mathlib.Core.List.{List, [], _∷_}
 use Prim.Native.Nat.{ℕ, zero, suc, _≤_}
 use native.Mathlib.Omega.{arith}
 use lib.IntN.{pos, negℤ}
 use lib.ListN.{length}
-use Rattle.model.specs.Calls.{Answer, refused, finished, reading, checking, spelling, sized}
+use Rattle.model.specs.Calls.{Answer, refused, finished, reading, checking, spelling, counting, writing, sized}
 use Rattle.model.specs.Lists.{Bytes}
 use Rattle.model.specs.Sheet.{Accepted, sheetOf}
 use Rattle.model.specs.Word.{Substitution, Solves}
 use Rattle.model.proofs.Known.{reading-accepted, reading-counts}
-use Rattle.model.proofs.Refusals.{refusal-numbers, checking-cases, spelling-refused}
+use Rattle.model.proofs.Refusals.{refusal-numbers, checking-cases, spelling-refused, counting-refused, writing-refused}
+use Rattle.model.proofs.Operations.{sheet-finished, counting-counts, LineOf, writing-answered, Sized}
 use Rattle.model.proofs.Passed.{FillingOf, answered, passed-solves, solves-passed}
 use Rattle.engine.specs.Returned.{returned, returnedNumber}
 
@@ -83,18 +84,24 @@ zero-fails b m y e =
     }
 
 -- `tpl_spell`: a number of 0 or more is the length of a text that was spelled
-pub record Sized (a : Answer) (n : ℕ) : Type 0 where
-  pub text : List ℕ
-  pub is : a ≡ finished text
-  pub count : length text ≡ n
-
-pub sized-finished : (a : Answer) {n : ℕ} → sized a ≡ finished (n ∷ []) → Sized a n
-sized-finished (refused k) e = let z : _≡_ {A = ℕ} 0 1 = cc in absurd (omega arith)
-sized-finished (finished values) e = record { text = values; is = refl; count = cc }
+length-told : (a : Answer) (n : ℕ) → ((k : ℕ) → a ≡ refused k → 1 ≤ k) → returnedNumber (sized a) ≡ pos n → Sized a n
+length-told (refused k) n h e = negative k (h k refl) e
+length-told (finished values) n h e = record { text = values; is = refl; count = pos-equal e }
 
 pub length-spelled : (b : List ℕ) (p side : ℕ) (m : List ℕ) (room n : ℕ) → returnedNumber (sized (spelling b p side m room)) ≡ pos n → Sized (spelling b p side m room) n
-length-spelled b p side m room n e = by-answer (spelling b p side m room) (spelling-refused b p side m room) e
-  where
-    by-answer : (a : Answer) → ((k : ℕ) → a ≡ refused k → 1 ≤ k) → returnedNumber (sized a) ≡ pos n → Sized a n
-    by-answer (refused k) h e = negative k (h k refl) e
-    by-answer (finished values) h e = record { text = values; is = refl; count = pos-equal e }
+length-spelled b p side m room n e = length-told (spelling b p side m room) n (spelling-refused b p side m room) e
+
+-- `tpl_count`: 0 for an accepted sheet, and no other
+pub zero-counted : (b : List ℕ) → returned (counting b) ≡ pos 0 → Accepted b
+unfolding counting
+zero-counted b e = sheet-finished b _ (zero-finished (counting b) (counting-refused b) e .is)
+
+pub counted-zero : (b : List ℕ) → Accepted b → returned (counting b) ≡ pos 0
+counted-zero b h = ap returned (counting-counts b h)
+
+-- `tpl_line`: a number of 0 or more is the length of that line, which the sheet has
+pub length-lined : (b : List ℕ) (line room n : ℕ) → returnedNumber (sized (writing b line room)) ≡ pos n → Sized (writing b line room) n
+length-lined b line room n e = length-told (writing b line room) n (writing-refused b line room) e
+
+pub is-line : (b : List ℕ) (line room n : ℕ) (e : returnedNumber (sized (writing b line room)) ≡ pos n) → LineOf b line room (length-lined b line room n e .text)
+is-line b line room n e = writing-answered b line room (length-lined b line room n e .is)

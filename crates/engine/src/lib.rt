@@ -4,7 +4,7 @@ ghost use mathlib.Core.Path.{_≡_};
 ghost use Prim.Native.Nat.{_<_};
 ghost use lib.IntN.{pos, negℤ};
 ghost use lib.ListN.{length};
-ghost use Rattle.model.specs.Calls.{reading, checking, spelling};
+ghost use Rattle.model.specs.Calls.{reading, checking, spelling, counting, writing};
 ghost use Rattle.engine.specs.Returned.{returned, lentAfter, returnedNumber, Handed};
 
 // Reads a sheet of any bytes. Returns 0, with its four counts (letters, fields, pairs, rules) in `counts`; or minus
@@ -53,6 +53,36 @@ pub extern "C" fn tpl_spell(
     match substitution::spell(sheet, pair as usize, side as usize, filling, text) {
         substitution::Spelling::Length(n) => n as i64,
         substitution::Spelling::Refused(refusal) => minus(substitution::number(refusal)),
+    }
+}
+
+// Counts the variables and clauses of a sheet's clause file. Returns 0, with the variables, the clauses and a size that is at least the
+// file's bytes in `counts`; or minus document 01's number of the first refusal, with `counts` as it was.
+#[no_mangle]
+pub extern "C" fn tpl_count(sheet: &[u8], counts: &mut [u64; 3]) -> i64
+    ensures { λ r. ⌜ (r ≡ returned (counting (now (sheet .entry)))) × (now (counts .exit) ≡ lentAfter (counting (now (sheet .entry))) (now (counts .entry))) ⌝ }
+{
+    match encoding::count(sheet) {
+        encoding::Counting::Refused(fault) => minus(sheet::number(fault)),
+        encoding::Counting::Counts(found) => {
+            let variables = found.variables as u64;
+            let clauses = found.clauses as u64;
+            let allowance = found.allowance as u64;
+            *counts = [variables, clauses, allowance];
+            0
+        }
+    }
+}
+
+// Writes line `line` of a sheet's clause file into `text`. Returns the line's length, with later bytes as they were; or minus document
+// 01's number of the first refusal, with all bytes as they were.
+#[no_mangle]
+pub extern "C" fn tpl_line(sheet: &[u8], line: u64, text: &mut [u8]) -> i64
+    ensures { λ r. ⌜ Handed (writing (now (sheet .entry)) line (length (now (text .entry)))) (now (text .entry)) r (now (text .exit)) ⌝ }
+{
+    match encoding::write_line(sheet, line as usize, text) {
+        encoding::Writing::Length(n) => n as i64,
+        encoding::Writing::Refused(refusal) => minus(encoding::number(refusal)),
     }
 }
 

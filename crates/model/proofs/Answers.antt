@@ -1,15 +1,19 @@
--- Checking and spelling, computed: fillings with their answers, most of the damaged ones with two faults at once, so that the order of
--- the refusals is a theorem. Assumes nothing.
+-- Checking, spelling, counting and writing lines, computed: inputs with their answers, most of the damaged ones with two faults at once,
+-- so that the order of the refusals is a theorem. Assumes nothing.
 use mathlib.Core.Path.{_≡_, refl}
 use mathlib.Core.List.{List, [], _∷_, _++_, map}
 use Prim.Native.Nat.{ℕ}
-use Rattle.model.specs.Lists.{startsWith, same, each, from, all}
+use Rattle.model.specs.Lists.{startsWith, same, each, from, all, any, keep, total}
 use Rattle.model.specs.Sheet.{row, times, sides, anEquation, aConstraint, walk, width, signed, opening, read, sheetIn}
 use Rattle.model.specs.Word.{spell, weight, sameWord, equationHolds, constraintHolds, keeps, solves}
 use Rattle.model.specs.Filling.{places, aText, texts, filling}
 use Rattle.model.specs.Report.{report}
-use Rattle.model.specs.Calls.{Answer, refused, finished, checking, spellingOf, spelling, written}
-use Rattle.model.proofs.Computed.{sheet}
+use Rattle.model.specs.Cells.{cells}
+use Rattle.model.specs.Clause.{terms, leftOut, literals, least, spread, sums, placeIds, locationIds, equationIds, constraintIds, listed, ids}
+use Rattle.model.specs.Numbering.{kVariables, sVariables, tVariables, variables, number, clause}
+use Rattle.model.specs.Dimacs.{digits, decimal, problemLine, clauseLine, line}
+use Rattle.model.specs.Calls.{Answer, refused, finished, checking, spellingOf, spelling, written, counting, writingOf, writing}
+use Rattle.model.proofs.Computed.{sheet, P}
 
 -- over A and B the fields X of limit 2 and Y of limit 1, and the pairs XAY, AY and Y, nothing
 abbrev pub asked : List ℕ
@@ -120,8 +124,36 @@ pub later-bytes : written (spelling asked 0 1 (nine 2 1 0 ++ nine 1 1 255) 4) (1
 unfolding startsWith row times sides anEquation aConstraint walk width signed opening read each spell places aText texts filling spellingOf spelling
 later-bytes = refl
 
+-- Counting and writing lines of document 01's sheet P.
+pub count-answers : map counting (P ∷ (P ++ (0 ∷ [])) ∷ []) ≡ finished (6 ∷ 8 ∷ 720 ∷ []) ∷ refused 9 ∷ []
+unfolding startsWith row times sides anEquation aConstraint walk width signed opening read each from any keep cells terms leftOut literals least spread sums placeIds locationIds equationIds constraintIds listed ids kVariables sVariables tVariables variables counting
+count-answers = refl
+
+pub record Line : Type 0 where
+  pub on : List ℕ
+  pub number : ℕ
+  pub room : ℕ
+  pub answer : Answer
+
+abbrev pub lines : List Line
+lines =
+    -- p cnf 6 8, the fourth clause and the last one
+    record { on = P; number = 0; room = 10; answer = finished (112 ∷ 32 ∷ 99 ∷ 110 ∷ 102 ∷ 32 ∷ 54 ∷ 32 ∷ 56 ∷ 10 ∷ []) }
+    ∷ record { on = P; number = 4; room = 99; answer = finished (45 ∷ 51 ∷ 32 ∷ 45 ∷ 50 ∷ 32 ∷ 53 ∷ 32 ∷ 48 ∷ 10 ∷ []) }
+    ∷ record { on = P; number = 8; room = 5; answer = finished (45 ∷ 53 ∷ 32 ∷ 48 ∷ 10 ∷ []) }
+    -- each refusal, with the next one
+    ∷ record { on = P ++ (0 ∷ []); number = 9; room = 0; answer = refused 9 }
+    ∷ record { on = P; number = 9; room = 0; answer = refused 28 }
+    ∷ record { on = P; number = 8; room = 4; answer = refused 29 }
+    ∷ record { on = P; number = 0; room = 9; answer = refused 29 }
+    ∷ []
+
+pub line-answers : map (λ (c : Line). writing (c .on) (c .number) (c .room)) lines ≡ map (λ (c : Line). c .answer) lines
+unfolding startsWith row times sides anEquation aConstraint walk width signed opening read each from any keep total cells terms leftOut literals least spread sums placeIds locationIds equationIds constraintIds listed ids kVariables sVariables tVariables variables number clause digits decimal problemLine clauseLine line writingOf writing
+line-answers = refl
+
 -- What the programs print for document 01's sheet P and X=A: "`clash`, `field 0=A`, `pair 0=A`".
-pub report-P : report (sheetIn (read (sheet 1 1 1 0 (65 ∷ 1 ∷ 1 ∷ 1 ∷ 128 ∷ 0 ∷ [])))) ((0 ∷ []) ∷ []) ≡
+pub report-P : report (sheetIn (read P)) ((0 ∷ []) ∷ []) ≡
     (99 ∷ 108 ∷ 97 ∷ 115 ∷ 104 ∷ 10 ∷ [])
     ++ (102 ∷ 105 ∷ 101 ∷ 108 ∷ 100 ∷ 32 ∷ 48 ∷ 61 ∷ 65 ∷ 10 ∷ [])
     ++ (112 ∷ 97 ∷ 105 ∷ 114 ∷ 32 ∷ 48 ∷ 61 ∷ 65 ∷ 10 ∷ [])

@@ -12,7 +12,10 @@ abbrev pub sheet : ℕ → ℕ → ℕ → ℕ → List ℕ → List ℕ
 sheet l v e r xs = mark ++ (0 ∷ 1 ∷ l ∷ v ∷ e ∷ r ∷ xs)
 
 -- document 01's sheet P: "one field X of limit 1 against A"
-pub read-P : read (sheet 1 1 1 0 (65 ∷ 1 ∷ 1 ∷ 1 ∷ 128 ∷ 0 ∷ [])) ≡ accepted (record
+abbrev pub P : List ℕ
+P = sheet 1 1 1 0 (65 ∷ 1 ∷ 1 ∷ 1 ∷ 128 ∷ 0 ∷ [])
+
+pub read-P : read P ≡ accepted (record
     { letters = 65 ∷ []; limits = 1 ∷ []; equations = record { left = field 0 ∷ []; right = letter 0 ∷ [] } ∷ []; constraints = [] })
 unfolding startsWith row times sides anEquation aConstraint walk width signed opening read
 read-P = refl

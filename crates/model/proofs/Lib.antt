@@ -1,7 +1,9 @@
+pub mod ClauseFiles
 pub mod Computed
 pub mod Answers
 pub mod Examples
 pub mod Lists
+pub mod Keeping
 pub mod Steps
 pub mod Rows
 pub mod Rests
@@ -25,3 +27,13 @@ pub mod Operations
 pub mod Fillings
 pub mod Passed
 pub mod Letters
+pub mod Integers
+pub mod Named
+pub mod Valid
+pub mod Standing
+pub mod Totals
+pub mod Finding
+pub mod Numbering
+pub mod Small
+pub mod Figures
+pub mod Lines

@@ -8,8 +8,8 @@ use native.Mathlib.Numerals.{add-one}
 use native.Mathlib.Omega.{arith}
 use lib.Arith.{lt-of-le-ne}
 use lib.Dec.{eqb}
-use lib.ListN.{length, getD, drop, drop-of-length-le, length-append}
-use lib.Seq.{drop-cons}
+use lib.ListN.{length, getD, take, drop, drop-of-length-le, length-append, take-append-drop}
+use lib.Seq.{drop-cons, take-suc}
 use borrow.Author.Tests.{eqb-true, eqb-false, eq-eqb, ne-eqb}
 use Rattle.model.specs.Lists.{same, each, from, upTo, All, all}
 
@@ -41,6 +41,10 @@ or-left b e = rw e
 pub or-right : (a : Bool) {b : Bool} → b ≡ true → (a || b) ≡ true
 or-right true e = refl
 or-right false e = e
+
+pub or-false : (a : Bool) → (a || false) ≡ a
+or-false true = refl
+or-false false = refl
 
 pub or-cases : {P : Type 0} (a b : Bool) → (a || b) ≡ true → (a ≡ true → P) → (b ≡ true → P) → P
 or-cases true b h f g = f refl
@@ -179,8 +183,21 @@ unfolding each
 each-append f [] ys = refl
 each-append f (x ∷ xs) ys = ap (λ z. f x ++ z) (each-append f xs ys) ∙ sym (append-assoc (f x) (each xs f) (each ys f))
 
+-- what is written of the first i elements: with one more, and no more than of all
+module _ {A B : Type 0} (f : A → List B) (xs : List A) (i : ℕ) where
+  pub each-next : (d : A) → i < length xs → each (take (i + 1) xs) f ≡ each (take i xs) f ++ f (getD xs i d)
+  unfolding each
+  each-next d h =
+      rw (add-one, take-suc xs i d h) (each-append f (take i xs) (getD xs i d ∷ []) ∙ ap (λ z. each (take i xs) f ++ z) (append-nil (f (getD xs i d))))
+
+  pub each-part : length (each (take i xs) f) ≤ length (each xs f)
+  each-part =
+      let e = ap length (ap (λ x. each x f) (sym (take-append-drop i xs)) ∙ each-append f (take i xs) (drop i xs)) in
+      let n = length-append (each (take i xs) f) (each (drop i xs) f) in
+      omega arith
+
 -- the numbers from a on, and those below n
-from-out : (P : ℕ → Type 0) (a n : ℕ) → All P (from a n) → (i : ℕ) → a ≤ i → i < a + n → P i
+pub from-out : (P : ℕ → Type 0) (a n : ℕ) → All P (from a n) → (i : ℕ) → a ≤ i → i < a + n → P i
 unfolding All from
 from-out P a zero h i low high = absurd (omega arith)
 from-out P a (suc n) h i low high = by-test (eqb a i)
@@ -190,7 +207,7 @@ from-out P a (suc n) h i low high = by-test (eqb a i)
 pub below-out : (P : ℕ → Type 0) (n : ℕ) → All P (upTo n) → (i : ℕ) → i < n → P i
 below-out P n h i k = from-out P 0 n h i (omega arith) (omega arith)
 
-from-more : (a n : ℕ) → from a (n + 1) ≡ from a n ++ ((a + n) ∷ [])
+pub from-more : (a n : ℕ) → from a (n + 1) ≡ from a n ++ ((a + n) ∷ [])
 unfolding from
 from-more a zero = let e : a + 0 ≡ a = omega arith in rw e
 from-more a (suc n) =

@@ -1,16 +1,20 @@
 -- How an operation on a sheet goes on: after reading the sheet, after its own tests, after reading a filling. Assumes nothing.
-use mathlib.Core.Path.{_≡_, refl, ap, _∙_}
+use mathlib.Core.Path.{_≡_, refl, sym, ap, subst, _∙_}
 use mathlib.Core.Bool.{Bool, true, false}
 use mathlib.Core.List.{List, [], _∷_, _++_}
 use Prim.Native.Nat.{ℕ, _<_, _≤_}
 use native.Mathlib.Omega.{arith}
-use lib.ListN.{length, drop}
-use borrow.Author.Tests.{lt-ltb, le-ltb, le-leb, lt-leb}
+use lib.Dec.{leb}
+use lib.ListN.{length, take, drop}
+use borrow.Author.Tests.{lt-ltb, le-ltb, le-leb, lt-leb, leb-true}
 use Rattle.model.specs.Sheet as sheet
 use Rattle.model.specs.Sheet.{Sheet, Step, got, fault, rest, Reading, read, isAccepted, Accepted, sheetOf}
 use Rattle.model.specs.Word.{Substitution}
 use Rattle.model.specs.Filling.{filling}
-use Rattle.model.specs.Calls.{Answer, refused, finished, ofSheet, require, ofFilling, readingOf, reading, spelledText, spellingOf, spelling, sized, written}
+use Rattle.model.specs.Clause.{ids}
+use Rattle.model.specs.Dimacs.{line}
+use Rattle.model.specs.Calls.{Answer, refused, finished, ofSheet, require, ofFilling, readingOf, reading, spelledText, spellingOf, spelling, sized, written, clauseCounts, counting, writingOf, writing}
+use Rattle.model.proofs.Reading.{read-prefix}
 use Rattle.model.proofs.Known.{accepted-sheet}
 
 not-finished : {P : Type 0} {n : ℕ} {vs : List ℕ} → refused n ≡ finished vs → P
@@ -88,6 +92,79 @@ module _ (s : Sheet) (p side : ℕ) (m : List ℕ) (room : ℕ) where
     pub spelling-text : length (spelledText s p side g) ≤ room → spellingOf s p side m room ≡ finished (spelledText s p side g)
     unfolding spellingOf
     spelling-text h = rw (e, le-leb (length (spelledText s p side g)) room h)
+
+-- Counting: the sheet's refusal, or the three counts.
+pub counting-sheet : (b : List ℕ) (n : ℕ) → reading b ≡ refused n → counting b ≡ refused n
+unfolding counting
+counting-sheet b n e = sheet-refused b n _ e
+
+pub counting-counts : (b : List ℕ) → Accepted b → counting b ≡ finished (clauseCounts (sheetOf b))
+unfolding counting
+counting-counts b ok = sheet-accepted b _ ok
+
+-- The first 160 bytes of a sheet decide both calls' answers.
+pub counting-prefix : (b : List ℕ) → counting b ≡ counting (take 160 b)
+unfolding counting
+counting-prefix b = ap (λ r. ofSheet r (λ s. finished (clauseCounts s))) (read-prefix b)
+
+pub writing-prefix : (b : List ℕ) (n room : ℕ) → writing b n room ≡ writing (take 160 b) n room
+unfolding writing
+writing-prefix b n room = ap (λ r. ofSheet r (λ s. writingOf s n room)) (read-prefix b)
+
+-- Writing a line: the answer, by the first test that fails.
+module _ (b : List ℕ) (n room : ℕ) where
+  pub writing-sheet : (k : ℕ) → reading b ≡ refused k → writing b n room ≡ refused k
+  unfolding writing
+  writing-sheet k e = sheet-refused b k _ e
+
+  module _ (ok : Accepted b) where
+    pub writing-above : length (ids (sheetOf b)) < n → writing b n room ≡ refused 28
+    unfolding writing writingOf
+    writing-above h = sheet-accepted b _ ok ∙ rw (lt-leb n (length (ids (sheetOf b))) h)
+
+    module _ (inside : n ≤ length (ids (sheetOf b))) where
+      pub writing-room : room < length (line (sheetOf b) n) → writing b n room ≡ refused 29
+      unfolding writing writingOf
+      writing-room h = sheet-accepted b _ ok ∙ rw (le-leb n (length (ids (sheetOf b))) inside, lt-leb (length (line (sheetOf b) n)) room h)
+
+      pub writing-line : length (line (sheetOf b) n) ≤ room → writing b n room ≡ finished (line (sheetOf b) n)
+      unfolding writing writingOf
+      writing-line h = sheet-accepted b _ ok ∙ rw (le-leb n (length (ids (sheetOf b))) inside, le-leb (length (line (sheetOf b) n)) room h)
+
+-- what an answer that is finished tells
+pub same-values : {us vs : List ℕ} → finished us ≡ finished vs → us ≡ vs
+same-values e = cc
+
+pub record LineOf (b : List ℕ) (n room : ℕ) (text : List ℕ) : Type 0 where
+  pub accepted : Accepted b
+  pub inside : n ≤ length (ids (sheetOf b))
+  pub is : text ≡ line (sheetOf b) n
+  pub fits : length text ≤ room
+
+pub writing-answered : (b : List ℕ) (n room : ℕ) {text : List ℕ} → writing b n room ≡ finished text → LineOf b n room text
+unfolding writing writingOf
+writing-answered b n room {text} e =
+    let ok = sheet-finished b _ e in
+    let s = sheetOf b in
+    let count = required (leb n (length (ids s))) 28 _ (sym (sheet-accepted b _ ok) ∙ e) in
+    let t = required (leb (length (line s n)) room) 29 _ (count .1) in
+    let same = same-values (t .1) in
+    record {
+      accepted = ok;
+      inside = leb-true n (length (ids s)) (count .0);
+      is = sym same;
+      fits = subst (λ z. length z ≤ room) same (leb-true (length (line s n)) room (t .0));
+    }
+
+-- A call that writes and answers a length has written a text of that length.
+pub record Sized (a : Answer) (n : ℕ) : Type 0 where
+  pub text : List ℕ
+  pub is : a ≡ finished text
+  pub count : length text ≡ n
+
+pub sized-finished : (a : Answer) {n : ℕ} → sized a ≡ finished (n ∷ []) → Sized a n
+sized-finished (refused k) e = let z : _≡_ {A = ℕ} 0 1 = cc in absurd (omega arith)
+sized-finished (finished values) e = record { text = values; is = refl; count = cc }
 
 -- What a call that writes leaves, by its answer.
 pub leaves-all : {a : Answer} (n : ℕ) (buffer : List ℕ) → a ≡ refused n → (refused n ≡ sized a) × (buffer ≡ written a buffer)

@@ -19,7 +19,7 @@ use Rattle.model.proofs.Known.{accepted-in-range}
 use Rattle.model.proofs.Fillings.{filling-reads, filling-exact}
 use Rattle.model.proofs.Words.{same-word-equal, solves-out, solves-in}
 use Rattle.model.proofs.Templates.{template-room}
-use Rattle.model.proofs.Operations.{sheet-accepted, sheet-finished, required, filling-finished, spelling-on, spelling-text}
+use Rattle.model.proofs.Operations.{sheet-accepted, sheet-finished, required, filling-finished, spelling-on, spelling-text, same-values}
 
 -- The bytes m are a filling of the accepted sheet b: those of a legal substitution g.
 pub record FillingOf (b m : List ℕ) (g : Substitution) : Type 0 where
@@ -92,7 +92,7 @@ module _ (b m : List ℕ) (y : Bytes b) where
       let w = filling-finished (filling s m) _ (sides .1) in
       let x = filling-exact s m (accepted-in-range b y ok) (w .read-as) in
       let t = required (leb (length (spelledText s p side (w .value))) room) 26 _ (w .answers) in
-      let same = same-text (t .1) in
+      let same = same-values (t .1) in
       record {
         substitution = w .value;
         is-filling = record { accepted = ok; legal = x .legal; bytes = x .bytes };
@@ -101,9 +101,6 @@ module _ (b m : List ℕ) (y : Bytes b) where
         is-text = sym same;
         fits = subst (λ l. length l ≤ room) same (leb-true (length (spelledText s p side (w .value))) room (t .0));
       }
-    where
-      same-text : {us vs : List ℕ} → finished us ≡ finished vs → us ≡ vs
-      same-text e = cc
 
   -- it has at most 24 letters
   pub spelling-short : (p side room : ℕ) {text : List ℕ} → spelling b p side m room ≡ finished text → length text ≤ 24

@@ -11,8 +11,10 @@ use Rattle.model.specs.Lists.{between, startsWith}
 use Rattle.model.specs.Sheet as sheet
 use Rattle.model.specs.Sheet.{Sheet, symbolOf, width, sixteen, Step, got, fault, _then_, must, Role, letterByte, limitByte, countByte, templateByte, coefficientByte, mostByte, passes, refusalOf, row, times, sides, anEquation, aConstraint, Counts, mark, byte, opening, walk, Reading, ended, read}
 use Rattle.model.specs.Word.{Substitution, solves}
+use Rattle.model.specs.Clause.{ids}
+use Rattle.model.specs.Dimacs.{line}
 use Rattle.model.specs.Filling.{places, aText, texts, filling}
-use Rattle.model.specs.Calls.{refused, finished, ofSheet, ofFilling, readingOf, reading, verdict, checking, Answer, require, spelledText, spellingOf, spelling}
+use Rattle.model.specs.Calls.{refused, finished, ofSheet, ofFilling, readingOf, reading, verdict, checking, Answer, require, spelledText, spellingOf, spelling, counting, writingOf, writing}
 
 -- a fault's number is from the one to the other
 abbrev Numbered : {A : Type 0} → ℕ → ℕ → Step A → Type 0
@@ -126,29 +128,48 @@ filling-numbers s m n e = by-step (filling s m) (of-filling s m) e
     by-step (got g xs) h e = let z : _≡_ {A = ℕ} 0 1 = cc in absurd (omega arith)
     by-step (fault k) h e = let z : k ≡ n = cc in omega arith
 
--- Spelling finishes, or its refusal's number is not 0.
-module _ (b : List ℕ) (p side : ℕ) (m : List ℕ) (room : ℕ) where
-  spelling-of : (s : Sheet) (w : Step Substitution) → Numbered 20 23 w → (n : ℕ) → ofFilling w (λ g. require (leb (length (spelledText s p side g)) room) 26 (finished (spelledText s p side g))) ≡ refused n → 1 ≤ n
-  spelling-of s (fault k) h n e = let z : k ≡ n = cc in omega arith
-  spelling-of s (got g xs) h n e = by-room (leb (length (spelledText s p side g)) room) e
-    where
-      by-room : (ok : Bool) → require ok 26 (finished (spelledText s p side g)) ≡ refused n → 1 ≤ n
-      by-room true e = let z : _≡_ {A = ℕ} 0 1 = cc in absurd (omega arith)
-      by-room false e = let z : 26 ≡ n = cc in omega arith
+-- An answer that is finished, or whose refusal's number is not 0: after a test, and after reading a sheet.
+abbrev NotZero : Answer → Type 0
+NotZero (refused n) = 1 ≤ n
+NotZero (finished values) = Unit
 
-  by-required : (ok : Bool) (k : ℕ) (go : Answer) → 1 ≤ k → (n : ℕ) → ((j : ℕ) → go ≡ refused j → 1 ≤ j) → require ok k go ≡ refused n → 1 ≤ n
-  by-required true k go h n f e = f n e
-  by-required false k go h n f e = let z : k ≡ n = cc in omega arith
+not-zero : (a : Answer) → NotZero a → (n : ℕ) → a ≡ refused n → 1 ≤ n
+not-zero (refused k) h n e = let z : k ≡ n = cc in omega arith
+not-zero (finished values) h n e = let z : _≡_ {A = ℕ} 0 1 = cc in absurd (omega arith)
+
+not-zero-require : (ok : Bool) (k : ℕ) (go : Answer) → 1 ≤ k → NotZero go → NotZero (require ok k go)
+not-zero-require true k go h f = f
+not-zero-require false k go h f = h
+
+not-zero-sheet : (b : List ℕ) (go : Sheet → Answer) → ((s : Sheet) → NotZero (go s)) → NotZero (ofSheet (read b) go)
+unfolding reading
+not-zero-sheet b go f = by-sheet (read b) (λ k h. refusal-numbers b k h .0)
+  where
+    by-sheet : (r : Reading) → ((k : ℕ) → readingOf r ≡ refused k → 1 ≤ k) → NotZero (ofSheet r go)
+    by-sheet (sheet.refused k) h = h k refl
+    by-sheet (sheet.accepted s) h = f s
+
+-- Spelling, counting and writing a line are such.
+module _ (b : List ℕ) (p side : ℕ) (m : List ℕ) (room : ℕ) where
+  spelling-of : (s : Sheet) (w : Step Substitution) → Numbered 20 23 w → NotZero (ofFilling w (λ g. require (leb (length (spelledText s p side g)) room) 26 (finished (spelledText s p side g))))
+  spelling-of s (fault k) h = omega arith
+  spelling-of s (got g xs) h = not-zero-require (leb (length (spelledText s p side g)) room) 26 _ (omega arith) tt
 
   pub spelling-refused : (n : ℕ) → spelling b p side m room ≡ refused n → 1 ≤ n
-  unfolding spelling spellingOf reading
-  spelling-refused n e = by-sheet (read b) (λ k h. refusal-numbers b k h .0) e
-    where
-      by-sheet : (r : Reading) → ((k : ℕ) → readingOf r ≡ refused k → 1 ≤ k) → ofSheet r (λ s. require (ltb p (length (s .equations))) 24 (require (leb side 1) 25 (spellingOf s p side m room))) ≡ refused n → 1 ≤ n
-      by-sheet (sheet.refused k) h e = h n e
-      by-sheet (sheet.accepted s) h e =
-          by-required (ltb p (length (s .equations))) 24 _ (omega arith) n
-          (λ j f. by-required (leb side 1) 25 _ (omega arith) j (λ i g. spelling-of s (filling s m) (of-filling s m) i g) f) e
+  unfolding spelling spellingOf
+  spelling-refused = not-zero (spelling b p side m room) (not-zero-sheet b _ (λ s.
+      not-zero-require (ltb p (length (s .equations))) 24 _ (omega arith)
+      (not-zero-require (leb side 1) 25 _ (omega arith) (spelling-of s (filling s m) (of-filling s m)))))
+
+pub counting-refused : (b : List ℕ) (n : ℕ) → counting b ≡ refused n → 1 ≤ n
+unfolding counting
+counting-refused b = not-zero (counting b) (not-zero-sheet b _ (λ s. tt))
+
+pub writing-refused : (b : List ℕ) (k room n : ℕ) → writing b k room ≡ refused n → 1 ≤ n
+unfolding writing writingOf
+writing-refused b k room = not-zero (writing b k room) (not-zero-sheet b _ (λ s.
+    not-zero-require (leb k (length (ids s))) 28 _ (omega arith)
+    (not-zero-require (leb (length (line s k)) room) 29 _ (omega arith) tt)))
 
 -- Checking answers 1, 0, or a refusal whose number is not 0.
 module _ {P : Type 0} (b m : List ℕ) (clash : checking b m ≡ finished (1 ∷ []) → P) (none : checking b m ≡ finished (0 ∷ []) → P) (not-read : (n : ℕ) → checking b m ≡ refused n → 1 ≤ n → P) where

@@ -5,7 +5,7 @@ use Prim.Native.Nat.{ℕ, suc, _+_, _-_, _<_, _≤_}
 use native.Mathlib.Numerals.{add-one}
 use native.Mathlib.Omega.{arith}
 use lib.ListN.{length, take, drop, getD, set, length-append, length-drop, take-append-drop}
-use lib.Seq.{take-all, drop-length, drop-cons, set-at, append-snoc, take-at, drop-at, drop-drop, drop-append-add, length-take-le, take-length, paste}
+use lib.Seq.{take-all, drop-length, drop-cons, set-at, append-snoc, take-at, drop-at, drop-drop, drop-append-add, length-take-le, take-length, paste, set-split}
 use borrow.Rule.Slice.PartMut.{putMid}
 use Rattle.model.specs.Lists.{placed, Puts}
 
@@ -75,6 +75,10 @@ placed-placed s at p q h =
     let d : drop (at + length p + length q) (placed s at p) ≡ drop (at + length p + length q) s =
     ap (drop (at + length p + length q)) b ∙ ap (λ j. drop (j + length q) (x ++ drop (at + length p) s)) (sym n) ∙ drop-append-add x (drop (at + length p) s) (length q) ∙ drop-drop (length q) (at + length p) s in
     rw (t, d, k) (simp append-assoc)
+
+-- a single store is a piece of one element
+pub put-one : (s : List ℕ) (at x : ℕ) → at < length s → Puts s at (x ∷ []) (set s at x) (at + 1)
+put-one s at x h = (omega arith, rw add-one (set-split s at x h))
 
 -- What b is after pieces were written into s from offset `start` on, up to `at`: together they are p.
 pub record Written (s : List ℕ) (start : ℕ) (p b : List ℕ) (at : ℕ) : Type 0 where

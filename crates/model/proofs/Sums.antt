@@ -23,7 +23,7 @@ abs-sub a b = by-test (ltb a b)
     (λ e. let h = ltb-true a b e in simp e (omega arith))
     (λ e. let h = ltb-false a b e in simp e (omega arith))
 
-abs-add : (a b : ℤ) → natAbs (a +ℤ b) ≤ natAbs a + natAbs b
+pub abs-add : (a b : ℤ) → natAbs (a +ℤ b) ≤ natAbs a + natAbs b
 abs-add (pos a) (pos b) = omega arith
 abs-add (pos a) (negsuc b) = abs-sub a (suc b)
 abs-add (negsuc a) (pos b) = let h = abs-sub b (suc a) in omega arith

@@ -1,18 +1,35 @@
 -- What an accepted sheet's templates keep to: of their symbols, of their bytes, and of the words that they spell. Assumes nothing.
 use mathlib.Core.Path.{_≡_}
 use mathlib.Core.Bool.{Bool, true, false}
-use mathlib.Core.List.{map}
+use mathlib.Core.List.{[], map}
 use Prim.Native.Nat.{ℕ, _<_, _≤_}
 use native.Mathlib.Omega.{arith}
 use lib.Dec.{eqb}
 use lib.ListN.{length}
 use Rattle.model.specs.Lists.{pick, All}
-use Rattle.model.specs.Sheet.{Symbol, letter, field, Sheet, equation, template, symbolOf, symbolByte}
-use Rattle.model.specs.Range.{SymbolIn, TemplateIn, EquationIn, InRange}
+use Rattle.model.specs.Sheet.{Symbol, letter, field, Equation, Sheet, equation, template, symbolOf, symbolByte}
+use Rattle.model.specs.Range.{SymbolIn, TemplateIn, EquationIn, InRange, WellFormed}
 use Rattle.model.specs.Word.{Substitution, Legal, spell}
 use Rattle.model.proofs.Lists.{at, weaken, map-in}
 use Rattle.model.proofs.Sections.{symbols-again}
 use Rattle.model.proofs.Words.{spell-short}
+
+-- The symbols of an equation's sides, of which nothing but `WellFormed` is asked; a sheet within the ranges is such.
+pub symbols-in : (s : Sheet) → WellFormed s → (p : ℕ) → p < length (s .equations) → (side : ℕ) → All (SymbolIn (length (s .letters)) (length (s .limits))) (template s p side)
+symbols-in s ok p h side = either (eqb side 0)
+  where
+    P : Equation → Type 0
+    P e = All (SymbolIn (length (s .letters)) (length (s .limits))) (e .left) × All (SymbolIn (length (s .letters)) (length (s .limits))) (e .right)
+
+    e : P (equation s p)
+    e = at P (s .equations) p (record { left = []; right = [] }) ok h
+
+    either : (left : Bool) → All (SymbolIn (length (s .letters)) (length (s .limits))) (pick left (equation s p .left) (equation s p .right))
+    either true = e .0
+    either false = e .1
+
+pub well-formed : (s : Sheet) → InRange s → WellFormed s
+well-formed s ok = weaken _ _ (s .equations) (λ e i. (i .left-in .symbols, i .right-in .symbols)) (ok .equations-in)
 
 module _ (s : Sheet) (ok : InRange s) (p : ℕ) (h : p < length (s .equations)) where
   pub template-in : (side : ℕ) → TemplateIn (length (s .letters)) (s .limits) (template s p side)

@@ -15,6 +15,7 @@ use Rattle.model.specs.Range.{SymbolIn}
 use Rattle.model.specs.Word.{Substitution, text, Legal, symbolWord, spell}
 use Rattle.model.specs.Cells.{Cell, letter, place, symbolCells, cells, value, unblank, values}
 use Rattle.model.proofs.Lists.{by-test, at}
+use Rattle.model.proofs.Keeping.{length-from, map-append}
 
 -- At a place of a text: a letter, or blank past its end.
 pub place-letter : (l : ℕ) (t : List ℕ) (c : ℕ) → All (λ a. a < l) t → c < length t → getD t c l < l
@@ -24,10 +25,6 @@ pub place-blank : (l : ℕ) (t : List ℕ) (c : ℕ) → length t ≤ c → getD
 place-blank l t c h = List·getD-eq-default t l h
 
 -- values of cells put together
-map-append : {A B : Type 0} (f : A → B) (xs ys : List A) → map f (xs ++ ys) ≡ map f xs ++ map f ys
-map-append f [] ys = refl
-map-append f (x ∷ xs) ys = ap (λ z. f x ∷ z) (map-append f xs ys)
-
 unblank-append : (l : ℕ) (xs ys : List ℕ) → unblank l (xs ++ ys) ≡ unblank l xs ++ unblank l ys
 unfolding unblank
 unblank-append l [] ys = refl
@@ -69,11 +66,6 @@ module _ (s : Sheet) (g : Substitution) (ok : Legal s g) where
       values-append (length (s .letters)) g (symbolCells s x) (each xs (symbolCells s)) ∙ rw (symbol-values x (h .0), cells-spell xs (h .1))
 
 -- As many cells as the width says.
-length-from : (c n : ℕ) → length (from c n) ≡ n
-unfolding from
-length-from c zero = refl
-length-from c (suc n) = ap suc (length-from (suc c) n)
-
 pub cells-width : (s : Sheet) (t : List Symbol) → length (cells s t) ≡ width (s .limits) t
 unfolding cells each width
 cells-width s [] = refl

@@ -1,20 +1,18 @@
 -- The tests of specs/Word decide what it says; and the word that a template spells: symbol by symbol, by the texts of its fields alone,
 -- over the letters, and no longer than its cells. Assumes nothing.
-use mathlib.Core.Path.{_≡_, refl, sym, ap, _∙_}
+use mathlib.Core.Path.{_≡_, refl, ap}
 use mathlib.Core.Bool.{Bool, true, false, _&&_}
-use mathlib.Core.List.{List, [], _∷_, _++_, append-nil}
+use mathlib.Core.List.{List, [], _∷_, _++_}
 use Prim.Native.Nat.{ℕ, _+_, _<_, _≤_}
-use native.Mathlib.Numerals.{add-one}
 use native.Mathlib.Omega.{arith}
 use lib.Dec.{T}
-use lib.ListN.{length, getD, take, drop, length-append, take-append-drop}
-use lib.Seq.{take-suc}
+use lib.ListN.{length, getD, take, length-append}
 use lib.Signed.{leZ}
 use Rattle.model.specs.Lists.{same, each, All, all}
 use Rattle.model.specs.Sheet.{Symbol, letter, field, Constraint, Sheet, cellsOf, width}
 use Rattle.model.specs.Range.{SymbolIn}
 use Rattle.model.specs.Word.{Substitution, text, Legal, symbolWord, spell, SameWord, EquationHolds, weight, ConstraintHolds, Keeps, Solves, sameWord, equationHolds, constraintHolds, keeps, solves}
-use Rattle.model.proofs.Lists.{never, and-split, and-join, and-true, same-equal, equal-same, weaken, each-in, all-out, all-in, each-same, each-append}
+use Rattle.model.proofs.Lists.{never, and-split, and-join, and-true, same-equal, equal-same, weaken, each-in, all-out, all-in, each-same, each-next, each-part}
 
 -- Two words are the same text exactly when they are equal, and `sameWord` decides it.
 pub same-word-equal : (s : Sheet) (u w : List ℕ) → SameWord s u w → u ≡ w
@@ -94,19 +92,12 @@ unfolding spell each
 spell-none g = refl
 
 pub spell-more : (g : Substitution) (t : List Symbol) (i : ℕ) (d : Symbol) → i < length t → spell g (take (i + 1) t) ≡ spell g (take i t) ++ symbolWord g (getD t i d)
-unfolding spell each
-spell-more g t i d h =
-    rw (add-one, take-suc t i d h) (each-append (symbolWord g) (take i t) (getD t i d ∷ []) ∙ ap (λ z. each (take i t) (symbolWord g) ++ z) (append-nil (symbolWord g (getD t i d))))
-
-spell-split : (g : Substitution) (t : List Symbol) (i : ℕ) → spell g t ≡ spell g (take i t) ++ spell g (drop i t)
 unfolding spell
-spell-split g t i = ap (λ x. each x (symbolWord g)) (sym (take-append-drop i t)) ∙ each-append (symbolWord g) (take i t) (drop i t)
+spell-more g t i d h = each-next (symbolWord g) t i d h
 
 pub spell-part : (g : Substitution) (t : List Symbol) (i : ℕ) → length (spell g (take i t)) ≤ length (spell g t)
-spell-part g t i =
-    let e = ap length (spell-split g t i) in
-    let n = length-append (spell g (take i t)) (spell g (drop i t)) in
-    omega arith
+unfolding spell
+spell-part g t i = each-part (symbolWord g) t i
 
 -- Substitutions that agree in the texts of v fields.
 abbrev pub Agree : ℕ → Substitution → Substitution → Type 0

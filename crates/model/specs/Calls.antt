@@ -10,6 +10,9 @@ use Rattle.model.specs.Sheet as sheet
 use Rattle.model.specs.Sheet.{Sheet, Step, got, fault, Counts, countsOf, Reading, read, template}
 use Rattle.model.specs.Word.{Substitution, letterBytes, spell, solves}
 use Rattle.model.specs.Filling.{filling}
+use Rattle.model.specs.Clause.{ids}
+use Rattle.model.specs.Numbering.{variables}
+use Rattle.model.specs.Dimacs.{line, allowance}
 
 -- "A refusal returns its number only"; a call that finishes answers its values.
 pub data Answer : Type 0 where
@@ -77,3 +80,20 @@ written (finished values) buffer = values ++ drop (length values) buffer
 
 abbrev pub Writes : Answer → List ℕ → Answer → List ℕ → Type 0
 Writes a before answer after = (answer ≡ sized a) × (after ≡ written a before)
+
+-- Counting: "no refusal of its own. The answer is the variable count, the clause count C, and the size allowance (C+1) × 80".
+abbrev pub clauseCounts : Sheet → List ℕ
+clauseCounts s = length (variables s) ∷ length (ids s) ∷ allowance s ∷ []
+
+unfoldable pub counting : List ℕ → Answer
+counting b = ofSheet (read b) (λ s. finished (clauseCounts s))
+
+-- Writing line n: "28 n above C; 29 buffer shorter than the line. The answer is the line's length; later bytes are unchanged."
+unfoldable pub writingOf : Sheet → ℕ → ℕ → Answer
+writingOf s n room =
+    require (leb n (length (ids s))) 28
+    (require (leb (length (line s n)) room) 29
+    (finished (line s n)))
+
+unfoldable pub writing : List ℕ → ℕ → ℕ → Answer
+writing b n room = ofSheet (read b) (λ s. writingOf s n room)

@@ -4,5 +4,9 @@ pub mod Range
 pub mod Word
 pub mod Cells
 pub mod Filling
+pub mod Clause
+pub mod Numbering
+pub mod Dimacs
+pub mod Count
 pub mod Report
 pub mod Calls

@@ -1,6 +1,6 @@
 -- The few words on tests and lists in which the other definitions are written.
 use mathlib.Core.Path.{_≡_}
-use mathlib.Core.Bool.{Bool, true, false, _&&_}
+use mathlib.Core.Bool.{Bool, true, false, _&&_, _||_}
 use mathlib.Core.List.{List, [], _∷_, _++_}
 use Prim.Native.Nat.{ℕ, zero, suc, _+_, _≤_, _<_}
 use lib.Dec.{leb, eqb}
@@ -45,6 +45,25 @@ upTo n = from 0 n
 unfoldable pub all : {A : Type 0} → (A → Bool) → List A → Bool
 all p [] = true
 all p (x ∷ xs) = p x && all p xs
+
+-- whether a test passes at some element
+unfoldable pub any : {A : Type 0} → (A → Bool) → List A → Bool
+any p [] = false
+any p (x ∷ xs) = p x || any p xs
+
+-- the list if a test passes, else nothing; and the elements that pass a test
+abbrev pub when : {A : Type 0} → Bool → List A → List A
+when true xs = xs
+when false xs = []
+
+unfoldable pub keep : {A : Type 0} → (A → Bool) → List A → List A
+keep p [] = []
+keep p (x ∷ xs) = when (p x) (x ∷ []) ++ keep p xs
+
+-- h 0 + .. + h (n - 1)
+unfoldable pub total : ℕ → (ℕ → ℕ) → ℕ
+total zero h = 0
+total (suc n) h = total n h + h n
 
 -- P of every element
 unfoldable pub All : {A : Type 0} → (A → Type 0) → List A → Type 0

@@ -5,7 +5,7 @@ use Prim.Native.Nat.{ℕ, suc, _≤_, _<_}
 use lib.IntN.{ℤ, pos, negsuc, natAbs}
 use lib.ListN.{length}
 use Rattle.model.specs.Lists.{All}
-use Rattle.model.specs.Sheet.{Symbol, letter, field, Equation, Constraint, Sheet, width, Counts, countsOf}
+use Rattle.model.specs.Sheet.{Symbol, letter, field, Equation, Constraint, Sheet, width, Counts, countsOf, Accepted, sheetOf}
 
 -- "strictly rising", above the number before them
 unfoldable pub Rising : ℕ → List ℕ → Type 0
@@ -53,3 +53,12 @@ pub record InRange (s : Sheet) : Type 0 where
   pub limits-in : All (λ n. n ≤ 8) (s .limits)
   pub equations-in : All (EquationIn (length (s .letters)) (s .limits)) (s .equations)
   pub constraints-in : All (ConstraintIn (length (s .limits))) (s .constraints)
+
+-- What the clauses need of a sheet: that each symbol names a letter or a field that the sheet has. No number of them plays a part.
+abbrev pub WellFormed : Sheet → Type 0
+WellFormed s =
+    All (λ e. All (SymbolIn (length (s .letters)) (length (s .limits))) (e .left) × All (SymbolIn (length (s .letters)) (length (s .limits))) (e .right)) (s .equations)
+
+-- Bytes that are accepted, with what that gives: of bytes below 256 the second follows from the first.
+abbrev pub Admitted : List ℕ → Type 0
+Admitted b = Accepted b × InRange (sheetOf b)

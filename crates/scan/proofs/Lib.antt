@@ -2,3 +2,4 @@ pub mod Machine
 mod Tests
 mod Rows
 pub mod Walks
+pub mod Terms

@@ -8,11 +8,11 @@ use mir.Syntax.{w64}
 use mir.ValLaws.{toZ-pos}
 use Rattle.model.specs.Calls.{refused, finished, spelling, sized}
 use Rattle.model.proofs.Passed.{spelling-short}
+use Rattle.model.proofs.Operations.{sized-finished}
 use Rattle.sheet.proofs.Known.{lent-bytes}
 use Rattle.substitution.specs.Answer.{numberOf, spelled}
 use Rattle.engine.specs.Returned.{returnedNumber}
 use Rattle.engine.proofs.Negated.{minus-told}
-use Rattle.engine.proofs.Told.{sized-finished}
 use borrow.Author.Needs.{needs}
 use Rattle.engine.proofs.tpl_spell.Statement.{statement}
 use Rattle.engine.proofs.tpl_spell.Tie as tie

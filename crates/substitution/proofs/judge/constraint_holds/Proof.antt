@@ -9,7 +9,7 @@ use Rattle.model.specs.Word.{weight, constraintHolds}
 use Rattle.scan.proofs.Machine.{small-back}
 use Rattle.fields.specs.Memory.{meaning}
 use Rattle.substitution.proofs.Meaning.{limited, sum-small}
-use Rattle.substitution.proofs.Terms.{most-back}
+use Rattle.scan.proofs.Terms.{most-back}
 use Rattle.substitution.proofs.judge.constraint_holds.Statement.{statement}
 use Rattle.substitution.proofs.judge.constraint_holds.Tie as tie
 

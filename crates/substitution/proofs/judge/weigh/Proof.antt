@@ -13,7 +13,7 @@ use Rattle.model.proofs.Sums.{weight-more}
 use Rattle.scan.proofs.Machine.{small-fits, small-back}
 use Rattle.fields.specs.Memory.{field, meaning}
 use Rattle.substitution.proofs.Meaning.{field-whole, length-at, small-at, sum-small}
-use Rattle.substitution.proofs.Terms.{wide-fits, product-fits, product-back}
+use Rattle.scan.proofs.Terms.{wide-fits, product-fits, product-back}
 use Rattle.substitution.proofs.judge.weigh.Statement.{statement}
 use Rattle.substitution.proofs.judge.weigh.Tie as tie
 

@@ -1,0 +1,198 @@
+// How many clauses an accepted sheet has, part by part.
+use shape::FIRST_PLACE;
+use shape::ROOM;
+use shape::Section;
+use shape::USED;
+ghost use mathlib.Core.Path.{_≡_};
+ghost use Prim.Native.Nat.{suc, _<_, _≤_};
+ghost use lib.ListN.{length, getD};
+ghost use Rattle.model.specs.Lists.{total};
+ghost use Rattle.model.specs.Sheet.{sheetOf, constraint};
+ghost use Rattle.model.specs.Range.{Admitted};
+ghost use Rattle.model.specs.Count.{notBothCount, fieldCount, locationCount, equationCount, stepCount, constraintCount, parts, partCounts};
+ghost use Rattle.model.specs.Clause.{ids};
+ghost use Rattle.model.specs.Count as model;
+ghost use Rattle.shape.specs.Bytes.{sideOf};
+ghost use Rattle.shape.specs.Name.{sectionOf};
+
+// The pairs of two values, of l letters and blank.
+pub fn not_both_count(l: usize) -> usize
+    requires { ⌜ l ≤ 8 ⌝ }
+    ensures { λ n. ⌜ (n ≡ notBothCount l) × (n ≤ 72) ⌝ }
+{
+    let mut sum: usize = 0;
+    let mut a: usize = 0;
+    while a <= l {
+        sum = sum + (l - a);
+        a += 1;
+    }
+    sum
+}
+
+// The clauses of field f: as many for each place, but one fewer for the last.
+pub fn field_count(sheet: &[u8], f: usize) -> usize
+    requires { ⌜ Admitted (now sheet) × (f < length (sheetOf (now sheet) .limits)) ⌝ }
+    ensures { λ n. ⌜ (n ≡ fieldCount (sheetOf (now (sheet .entry))) f) × (n ≤ 592) ⌝ }
+{
+    let limit = shape::limit(sheet, f);
+    if limit == 0 {
+        return 0;
+    }
+    limit * (2 + not_both_count(shape::letters(sheet))) - 1
+}
+
+// The clauses of a location, by what stands on its two sides.
+pub fn location_count(l: usize, u: u8, v: u8) -> usize
+    requires { ⌜ l ≤ 8 ⌝ }
+    ensures { λ n. ⌜ (n ≡ locationCount l (sideOf u) (sideOf v)) × (n ≤ 11) ⌝ }
+{
+    if u == USED {
+        if v == USED {
+            return 0;
+        }
+        if v < FIRST_PLACE {
+            return 1;
+        }
+        return 2;
+    }
+    if v == USED {
+        if u < FIRST_PLACE {
+            return 1;
+        }
+        return 2;
+    }
+    if u < FIRST_PLACE {
+        if v < FIRST_PLACE {
+            if u == v {
+                return 1;
+            }
+            return 2;
+        }
+        return 3;
+    }
+    if v < FIRST_PLACE {
+        return l + 1;
+    }
+    l + 3
+}
+
+// The clauses of a row of locations: of those with u on the left and, on the right, the first n cells and what stands past them.
+pub fn row_count(l: usize, u: u8, right: [u8; ROOM], n: usize) -> usize
+    requires { ⌜ (l ≤ 8) × (n ≤ 24) ⌝ }
+    ensures { λ r. ⌜ (r ≡ total (suc n) (λ j. locationCount l (sideOf u) (sideOf (getD right j 0)))) × (r ≤ 275) ⌝ }
+{
+    let mut sum: usize = 0;
+    let mut j: usize = 0;
+    while j <= n {
+        sum = sum + location_count(l, u, right[j]);
+        j += 1;
+    }
+    sum
+}
+
+// The clauses of equation p.
+pub fn equation_count(sheet: &[u8], p: usize) -> usize
+    requires { ⌜ Admitted (now sheet) × (p < length (sheetOf (now sheet) .equations)) ⌝ }
+    ensures { λ n. ⌜ (n ≡ equationCount (sheetOf (now (sheet .entry))) p) × (n ≤ 6876) ⌝ }
+{
+    let letters = shape::letters(sheet);
+    let m = shape::width(sheet, p, 0);
+    let n = shape::width(sheet, p, 1);
+    let left = shape::side(sheet, p, 0);
+    let right = shape::side(sheet, p, 1);
+    let mut sum: usize = 1;
+    let mut i: usize = 0;
+    while i <= m {
+        sum = sum + row_count(letters, left[i], right, n);
+        i += 1;
+    }
+    sum
+}
+
+// Of the sums that all fields may have under constraint r, those that are at most its limit.
+pub fn within(sheet: &[u8], r: usize) -> usize
+    requires { ⌜ Admitted (now sheet) × (r < length (sheetOf (now sheet) .constraints)) ⌝ }
+    ensures { λ n. ⌜ (n ≡ model.within (sheetOf (now (sheet .entry))) (constraint (sheetOf (now (sheet .entry))) r)) × (n ≤ 193) ⌝ }
+{
+    let fields = shape::fields(sheet);
+    let sums = numbering::spread(sheet, r, fields) + 1;
+    let least = numbering::least(sheet, r, fields);
+    let most = sheet::most(sheet, r);
+    if most < least {
+        return 0;
+    }
+    let d = ((most as i32) - (least as i32)) as usize;
+    if d < sums {
+        return d + 1;
+    }
+    sums
+}
+
+// The clauses of field k's step under constraint r: one for each sum of the fields before it and each length.
+pub fn step_count(sheet: &[u8], r: usize, k: usize) -> usize
+    requires { ⌜ Admitted (now sheet) × (r < length (sheetOf (now sheet) .constraints)) × (k < length (sheetOf (now sheet) .limits)) ⌝ }
+    ensures { λ n. ⌜ (n ≡ stepCount (sheetOf (now (sheet .entry))) r k) × (n ≤ 1737) ⌝ }
+{
+    (numbering::spread(sheet, r, k) + 1) * (shape::limit(sheet, k) + 1)
+}
+
+// The clauses of all steps under constraint r.
+pub fn steps_count(sheet: &[u8], r: usize) -> usize
+    requires { ⌜ Admitted (now sheet) × (r < length (sheetOf (now sheet) .constraints)) ⌝ }
+    ensures { λ n. ⌜ (n ≡ total (length (sheetOf (now (sheet .entry)) .limits)) (stepCount (sheetOf (now (sheet .entry))) r)) × (n ≤ 10422) ⌝ }
+{
+    let fields = shape::fields(sheet);
+    let mut sum: usize = 0;
+    let mut k: usize = 0;
+    while k < fields {
+        sum = sum + step_count(sheet, r, k);
+        k += 1;
+    }
+    sum
+}
+
+// The clauses of constraint r: the first, those of its steps, and one for each final sum above its limit.
+pub fn constraint_count(sheet: &[u8], r: usize) -> usize
+    requires { ⌜ Admitted (now sheet) × (r < length (sheetOf (now sheet) .constraints)) ⌝ }
+    ensures { λ n. ⌜ (n ≡ constraintCount (sheetOf (now (sheet .entry))) r) × (n ≤ 10616) ⌝ }
+{
+    let sums = numbering::spread(sheet, r, shape::fields(sheet)) + 1;
+    1 + steps_count(sheet, r) + (sums - within(sheet, r))
+}
+
+// The clauses of part i of a section: of a field, of an equation, of a constraint.
+pub fn part_count(sheet: &[u8], section: Section, i: usize) -> usize
+    requires { ⌜ Admitted (now sheet) × (i < parts (sheetOf (now sheet)) (sectionOf section)) ⌝ }
+    ensures { λ n. ⌜ (n ≡ partCounts (sheetOf (now (sheet .entry))) (sectionOf section) i) × (n ≤ 10616) ⌝ }
+{
+    match section {
+        Section::Fields => field_count(sheet, i),
+        Section::Equations => equation_count(sheet, i),
+        Section::Constraints => constraint_count(sheet, i),
+    }
+}
+
+// The clauses of a section.
+pub fn section_count(sheet: &[u8], section: Section) -> usize
+    requires { ⌜ Admitted (now sheet) ⌝ }
+    ensures { λ n. ⌜ (n ≡ total (parts (sheetOf (now (sheet .entry))) (sectionOf section)) (partCounts (sheetOf (now (sheet .entry))) (sectionOf section))) × (n ≤ 63696) ⌝ }
+{
+    let parts = shape::parts(sheet, section);
+    let mut sum: usize = 0;
+    let mut i: usize = 0;
+    while i < parts {
+        sum = sum + part_count(sheet, section, i);
+        i += 1;
+    }
+    sum
+}
+
+// All clauses.
+pub fn clause_count(sheet: &[u8]) -> usize
+    requires { ⌜ Admitted (now sheet) ⌝ }
+    ensures { λ n. ⌜ (n ≡ length (ids (sheetOf (now (sheet .entry))))) × (n ≤ 99999) ⌝ }
+{
+    section_count(sheet, Section::Fields)
+        + section_count(sheet, Section::Equations)
+        + section_count(sheet, Section::Constraints)
+}

@@ -1,0 +1,28 @@
+-- Literals as codes, as SAT solvers keep them: twice the variable's number, and one more for its negation; 0 for none.
+use mathlib.Core.List.{List, [], _∷_, _++_}
+use Prim.Native.Nat.{ℕ, _+_, _*_, _/_, _%_}
+use lib.Dec.{eqb}
+use Rattle.model.specs.Lists.{pick, each}
+use Rattle.model.specs.Sheet.{Sheet}
+use Rattle.model.specs.Clause.{Literal, is, isnt, Term, known, unknown}
+use Rattle.model.specs.Numbering.{number}
+use Rattle.model.specs.Dimacs.{decimal}
+
+-- the code of a literal, and of a literal as document 01 writes it in a clause: 0 where it is known
+abbrev pub codeOf : Sheet → Literal → ℕ
+codeOf s (is x) = 2 * number s x
+codeOf s (isnt x) = 2 * number s x + 1
+
+abbrev pub termCode : Sheet → Term → ℕ
+termCode s (known b) = 0
+termCode s (unknown l) = codeOf s l
+
+-- what is written of a code
+abbrev pub sign : ℕ → List ℕ
+sign code = pick (eqb (code % 2) 0) [] (45 ∷ [])
+
+unfoldable pub codeBytes : ℕ → List ℕ
+codeBytes code = pick (eqb code 0) [] (sign code ++ (decimal (code / 2) ++ (32 ∷ [])))
+
+unfoldable pub codesLine : List ℕ → List ℕ
+codesLine codes = each codes codeBytes ++ (48 ∷ 10 ∷ [])

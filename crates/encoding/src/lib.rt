@@ -1,0 +1,110 @@
+// The clause file of a sheet: how many variables and clauses it has, and its lines.
+ghost use mathlib.Core.Path.{_≡_};
+ghost use Prim.Native.Nat.{_≤_};
+ghost use lib.ListN.{length};
+ghost use Rattle.model.specs.Lists.{Puts};
+ghost use Rattle.model.specs.Sheet.{sheetOf};
+ghost use Rattle.model.specs.Range.{Admitted};
+ghost use Rattle.model.specs.Clause.{ids};
+ghost use Rattle.model.specs.Dimacs.{line};
+ghost use Rattle.model.specs.Calls.{clauseCounts, counting, writing, Writes};
+ghost use Rattle.encoding.specs.Answer.{numberOf, threeCounts, counted, lined};
+
+// What counting answers: the variables, the clauses, and a size that is at least the file's bytes.
+pub struct ClauseCounts {
+    pub variables: usize,
+    pub clauses: usize,
+    pub allowance: usize,
+}
+
+// The answer of counting, which refuses only what reading refuses.
+pub enum Counting {
+    Counts(ClauseCounts),
+    Refused(sheet::Refusal),
+}
+
+// What writing a line refuses, by document 01's numbers: what reading refuses, 28 and 29.
+pub enum Refusal {
+    Sheet(sheet::Refusal),
+    Line,
+    Room,
+}
+
+// The answer of writing a line.
+pub enum Writing {
+    Length(usize),
+    Refused(Refusal),
+}
+
+// Room for any line, and what the allowance has for each.
+pub const LINE_ROOM: usize = 80;
+
+// Document 01's number of a refusal.
+pub fn number(refusal: Refusal) -> u8
+    ensures { λ r. ⌜ r ≡ numberOf refusal ⌝ }
+{
+    match refusal {
+        Refusal::Sheet(found) => sheet::number(found),
+        Refusal::Line => 28,
+        Refusal::Room => 29,
+    }
+}
+
+// The counts of an accepted sheet.
+fn clause_counts(sheet: &[u8]) -> ClauseCounts
+    requires { ⌜ Admitted (now sheet) ⌝ }
+    ensures { λ r. ⌜ threeCounts r ≡ clauseCounts (sheetOf (now (sheet .entry))) ⌝ }
+{
+    let clauses = counting::clause_count(sheet);
+    ClauseCounts {
+        variables: numbering::variable_count(sheet),
+        clauses,
+        allowance: (clauses + 1) * LINE_ROOM,
+    }
+}
+
+// Counts a sheet's variables and clauses: the three counts, or the sheet's refusal. Any bytes are allowed.
+pub fn count(sheet: &[u8]) -> Counting
+    ensures { λ r. ⌜ counted r ≡ counting (now (sheet .entry)) ⌝ }
+{
+    match sheet::read(sheet) {
+        sheet::Reading::Refused(refusal) => Counting::Refused(refusal),
+        sheet::Reading::Accepted(_) => Counting::Counts(clause_counts(sheet)),
+    }
+}
+
+// Line n of an accepted sheet's clause file, from the front of the buffer on. Returns its length.
+pub fn put_line(buf: &mut [u8], sheet: &[u8], n: usize) -> usize
+    requires { ⌜ Admitted (now sheet) × (n ≤ length (ids (sheetOf (now sheet)))) × (80 ≤ length (now buf)) ⌝ }
+    ensures { λ r. ⌜ Puts (now (buf .entry)) 0 (line (sheetOf (now (sheet .entry))) n) (now (buf .exit)) r ⌝ }
+{
+    if n == 0 {
+        let variables = numbering::variable_count(sheet);
+        let clauses = counting::clause_count(sheet);
+        return dimacs::problem_line(buf, variables, clauses);
+    }
+    let codes = literals::codes(sheet, finding::find(sheet, n - 1));
+    dimacs::clause_line(buf, &codes)
+}
+
+// Writes line n of the clause file into the buffer, line 0 being the first: the line's length, or the first refusal in document 01's order.
+// Any bytes and any number are allowed. Bytes after the line, and on a refusal all, are as they were.
+pub fn write_line(sheet: &[u8], n: usize, buf: &mut [u8]) -> Writing
+    ensures { λ r. ⌜ Writes (writing (now (sheet .entry)) n (length (now (buf .entry)))) (now (buf .entry)) (lined r) (now (buf .exit)) ⌝ }
+{
+    match sheet::read(sheet) {
+        sheet::Reading::Refused(refusal) => Writing::Refused(Refusal::Sheet(refusal)),
+        sheet::Reading::Accepted(_) => {
+            let last = counting::clause_count(sheet);
+            if n > last {
+                return Writing::Refused(Refusal::Line);
+            }
+            let mut line = [0u8; LINE_ROOM];
+            let len = put_line(&mut line, sheet, n);
+            if buf.len() < len {
+                return Writing::Refused(Refusal::Room);
+            }
+            Writing::Length(words::put(buf, 0, &line[..len]))
+        }
+    }
+}

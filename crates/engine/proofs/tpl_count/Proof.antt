@@ -1,0 +1,56 @@
+-- `engine::tpl_count` meets its contract: what counting answers, handed over. Assumes nothing.
+use mathlib.Core.Path.{_≡_, refl, sym, ap, _∙_}
+use Rattle.model.specs.Calls.{counting, refused, finished}
+use Rattle.sheet.specs.Answer.{numberOf}
+use Rattle.encoding.specs.Answer.{threeCounts, counted}
+use Rattle.engine.proofs.Negated.{minus-stored}
+use borrow.Author.Needs.{needs}
+use Rattle.engine.proofs.tpl_count.Statement.{statement}
+use Rattle.engine.proofs.tpl_count.Tie as tie
+
+count-requires : tie.Need-count-requires
+count-requires c κs = search needs
+
+enum-known-fault : tie.Need-enum-known-fault
+enum-known-fault c = search needs
+
+number-requires : tie.Need-number-requires
+number-requires c κs = search needs
+
+minus-requires : tie.Need-minus-requires
+minus-requires c κs = search needs
+
+enum-known-found : tie.Need-enum-known-found
+enum-known-found c = search needs
+
+returns : tie.Need-returns
+returns c =
+    let at-start = c .before .before .before .before .before .before .before in
+    let at-fault = c .before .before .before .fault in
+    let at-count = c .before .before .before .before .before .count in
+    let b = at-start .args .sheet .now in
+    let f = at-fault .given .0 .0 in
+    let e : counting b ≡ refused (numberOf f) = sym (at-count .ensures) ∙ ap counted (at-fault .given .1) in
+    let n : c .before .number .result ≡ numberOf f = c .before .number .ensures in
+    rw (e, c .minus .ensures .0, n) (minus-stored (numberOf f) (rw n at (c .minus .ensures .1)), refl)
+
+returns-2 : tie.Need-returns-2
+returns-2 c =
+    let at-start = c .before .before .before .before .before .before in
+    let at-found = c .before .before .found in
+    let at-count = c .before .before .before .before .count in
+    let b = at-start .args .sheet .now in
+    let e : counting b ≡ finished (threeCounts (at-found .given .0 .0)) = sym (at-count .ensures) ∙ ap counted (at-found .given .1) in
+    rw e (refl, refl)
+
+pub tpl-count-spec : {M : Type 1} → statement M
+tpl-count-spec =
+    tie.close
+    (tie.spec
+    count-requires
+    enum-known-fault
+    number-requires
+    minus-requires
+    enum-known-found
+    returns
+    returns-2)

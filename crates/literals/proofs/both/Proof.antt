@@ -1,0 +1,67 @@
+-- `literals::both` meets its contract. Assumes nothing.
+use mathlib.Core.Path.{_≡_, ap, _∙_}
+use Prim.Native.Nat.{suc, _+_, _*_}
+use native.Mathlib.Omega.{arith}
+use Rattle.model.specs.Sheet.{sheetOf}
+use Rattle.model.specs.Clause.{S, terms, leftCells, rightCells}
+use Rattle.model.specs.Numbering.{number}
+use Rattle.model.proofs.Small.{cells-small}
+use Rattle.literals.specs.Name.{nine}
+use Rattle.literals.proofs.Laws.{same-nine, blank-code}
+use Rattle.literals.proofs.both.Statement.{statement}
+use Rattle.literals.proofs.both.Tie as tie
+
+location-code-requires : tie.Need-location-code-requires
+location-code-requires c κs = (c .before .pre .0, c .before .pre .1 .0, omega arith)
+
+blank-code-requires : tie.Need-blank-code-requires
+blank-code-requires c κs =
+    let at-start = c .before .before in
+    (at-start .pre .0, at-start .pre .1 .0 .0, omega (arith, at-start .pre .1, cells-small (sheetOf (at-start .args .sheet .now)) (at-start .pre .0 .1) (at-start .args .p) (at-start .pre .1 .0 .0)), omega arith)
+
+blank-code-requires-2 : tie.Need-blank-code-requires-2
+blank-code-requires-2 c κs =
+    let at-start = c .before .before .before in
+    (at-start .pre .0, at-start .pre .1 .0 .0, omega (arith, at-start .pre .1, cells-small (sheetOf (at-start .args .sheet .now)) (at-start .pre .0 .1) (at-start .args .p) (at-start .pre .1 .0 .0)), omega arith)
+
+add-location-code : tie.Need-add-location-code
+add-location-code c =
+    let at-start = c .before .before .before .before in
+    omega (arith, at-start .pre .1, cells-small (sheetOf (at-start .args .sheet .now)) (at-start .pre .0 .1) (at-start .args .p) (at-start .pre .1 .0 .0))
+
+add-location-code-2 : tie.Need-add-location-code-2
+add-location-code-2 c =
+    let at-start = c .before .before .before .before in
+    omega (arith, at-start .pre .1, cells-small (sheetOf (at-start .args .sheet .now)) (at-start .pre .0 .1) (at-start .args .p) (at-start .pre .1 .0 .0))
+
+location-code-requires-2 : tie.Need-location-code-requires-2
+location-code-requires-2 c κs =
+    let at-start = c .before .before .before .before in
+    (at-start .pre .0, (at-start .pre .1 .0 .0, omega (arith, at-start .pre .1), omega (arith, at-start .pre .1)), omega arith)
+
+returns : tie.Need-returns
+unfolding nine terms
+returns c =
+    let at-start = c .before .before .before .before .before in
+    let at-location-code = c .before .before .before .location-code in
+    let at-blank-code = c .before .before .blank-code in
+    let s = sheetOf (at-start .args .sheet .now) in
+    let a = at-start .args in
+    let us = leftCells s (a .p) in
+    let vs = rightCells s (a .p) in
+    let ei : a .i + 1 ≡ suc (a .i) = omega arith in
+    let ej : a .j + 1 ≡ suc (a .j) = omega arith in
+    let next = c .location-code2 .ensures ∙ ap (λ n. 2 * number s (S (a .p) n (a .j + 1)) + 0) ei ∙ ap (λ n. 2 * number s (S (a .p) (suc (a .i)) n) + 0) ej in
+    same-nine (at-location-code .ensures) (at-blank-code .ensures ∙ blank-code s us (a .i) (at-start .pre .1 .1)) (c .before .blank-code2 .ensures ∙ blank-code s vs (a .j) (at-start .pre .1 .2)) (omega arith)
+
+pub both-spec : {M : Type 1} → statement M
+both-spec =
+    tie.close
+    (tie.spec
+    location-code-requires
+    blank-code-requires
+    blank-code-requires-2
+    add-location-code
+    add-location-code-2
+    location-code-requires-2
+    returns)

@@ -1,0 +1,53 @@
+-- `literals::left` meets its contract. Assumes nothing.
+use mathlib.Core.Path.{_≡_, refl, ap, _∙_}
+use Prim.Native.Nat.{suc, _+_, _*_}
+use native.Mathlib.Omega.{arith}
+use Rattle.model.specs.Sheet.{sheetOf}
+use Rattle.model.specs.Clause.{S, terms, leftCells, rightCells}
+use Rattle.model.specs.Numbering.{number}
+use Rattle.model.proofs.Small.{cells-small}
+use Rattle.literals.specs.Name.{nine}
+use Rattle.literals.proofs.Laws.{same-nine, blank-code, not-blank-code}
+use Rattle.literals.proofs.left.Statement.{statement}
+use Rattle.literals.proofs.left.Tie as tie
+
+location-code-requires : tie.Need-location-code-requires
+location-code-requires c κs = (c .before .pre .0, c .before .pre .1 .0, omega arith)
+
+blank-code-requires : tie.Need-blank-code-requires
+blank-code-requires c κs =
+    let at-start = c .before .before in
+    (at-start .pre .0, at-start .pre .1 .0 .0, omega (arith, at-start .pre .1, cells-small (sheetOf (at-start .args .sheet .now)) (at-start .pre .0 .1) (at-start .args .p) (at-start .pre .1 .0 .0)), omega arith)
+
+add-location-code : tie.Need-add-location-code
+add-location-code c =
+    let at-start = c .before .before .before in
+    omega (arith, at-start .pre .1, cells-small (sheetOf (at-start .args .sheet .now)) (at-start .pre .0 .1) (at-start .args .p) (at-start .pre .1 .0 .0))
+
+location-code-requires-2 : tie.Need-location-code-requires-2
+location-code-requires-2 c κs =
+    let at-start = c .before .before .before in
+    (at-start .pre .0, (at-start .pre .1 .0 .0, omega (arith, at-start .pre .1), omega (arith, at-start .pre .1)), omega arith)
+
+returns : tie.Need-returns
+unfolding nine terms
+returns c =
+    let at-start = c .before .before .before .before in
+    let at-location-code = c .before .before .location-code in
+    let s = sheetOf (at-start .args .sheet .now) in
+    let a = at-start .args in
+    let us = leftCells s (a .p) in
+    let vs = rightCells s (a .p) in
+    let ei : a .i + 1 ≡ suc (a .i) = omega arith in
+    let next = c .location-code2 .ensures ∙ ap (λ n. 2 * number s (S (a .p) n (a .j)) + 0) ei in
+    same-nine (at-location-code .ensures) (c .before .blank-code .ensures ∙ not-blank-code s us (a .i) (at-start .pre .1 .1)) (omega arith) refl
+
+pub left-spec : {M : Type 1} → statement M
+left-spec =
+    tie.close
+    (tie.spec
+    location-code-requires
+    blank-code-requires
+    add-location-code
+    location-code-requires-2
+    returns)

@@ -1,0 +1,50 @@
+-- `literals::matching` meets its contract. Assumes nothing.
+use mathlib.Core.Path.{_∙_}
+use native.Mathlib.Omega.{arith}
+use Rattle.model.specs.Sheet.{sheetOf}
+use Rattle.model.specs.Clause.{terms, leftCells, rightCells}
+use Rattle.model.proofs.Small.{cells-small}
+use Rattle.literals.specs.Name.{nine}
+use Rattle.literals.proofs.Laws.{same-nine, holds-code, lacks-code, blank-code}
+use Rattle.literals.proofs.matching.Statement.{statement}
+use Rattle.literals.proofs.matching.Tie as tie
+
+location-code-requires : tie.Need-location-code-requires
+location-code-requires c κs = (c .before .pre .0, c .before .pre .1 .0, omega arith)
+
+blank-code-requires : tie.Need-blank-code-requires
+blank-code-requires c κs =
+    let at-start = c .before .before in
+    (at-start .pre .0, at-start .pre .1 .0 .0, omega (arith, at-start .pre .1, cells-small (sheetOf (at-start .args .sheet .now)) (at-start .pre .0 .1) (at-start .args .p) (at-start .pre .1 .0 .0)), omega arith)
+
+cell-code-requires : tie.Need-cell-code-requires
+cell-code-requires c κs =
+    let at-start = c .before .before .before in
+    (at-start .pre .0, at-start .pre .1 .0 .0, omega (arith, at-start .pre .1, cells-small (sheetOf (at-start .args .sheet .now)) (at-start .pre .0 .1) (at-start .args .p) (at-start .pre .1 .0 .0)), omega (arith, at-start .pre .1), omega arith)
+
+cell-code-requires-2 : tie.Need-cell-code-requires-2
+cell-code-requires-2 c κs =
+    let at-start = c .before .before .before .before in
+    (at-start .pre .0, at-start .pre .1 .0 .0, omega (arith, at-start .pre .1, cells-small (sheetOf (at-start .args .sheet .now)) (at-start .pre .0 .1) (at-start .args .p) (at-start .pre .1 .0 .0)), omega (arith, at-start .pre .1), omega arith)
+
+returns : tie.Need-returns
+unfolding nine terms
+returns c =
+    let at-start = c .before .before .before .before .before in
+    let at-location-code = c .before .before .before .location-code in
+    let at-blank-code = c .before .before .blank-code in
+    let s = sheetOf (at-start .args .sheet .now) in
+    let a = at-start .args in
+    let us = leftCells s (a .p) in
+    let vs = rightCells s (a .p) in
+    same-nine (at-location-code .ensures) (at-blank-code .ensures ∙ blank-code s vs (a .j) (at-start .pre .1 .2)) (c .before .cell-code .ensures ∙ lacks-code s us (a .i) (a .a) (at-start .pre .1 .1)) (c .cell-code2 .ensures ∙ holds-code s vs (a .j) (a .a) (at-start .pre .1 .2))
+
+pub matching-spec : {M : Type 1} → statement M
+matching-spec =
+    tie.close
+    (tie.spec
+    location-code-requires
+    blank-code-requires
+    cell-code-requires
+    cell-code-requires-2
+    returns)

@@ -1,0 +1,41 @@
+-- Clauses by name as the code has them, and their literals as nine codes.
+use mathlib.Core.List.{List, _++_, map}
+use Prim.Native.Nat.{ℕ, _+_, _-_, _*_}
+use lib.Dec.{ltb}
+use lib.ListN.{length, replicate}
+use Rattle.model.specs.Lists.{pick}
+use Rattle.model.specs.Sheet.{Sheet}
+use Rattle.model.specs.Cells.{Cell, letter, place}
+use Rattle.model.specs.Clause as model
+use Rattle.model.specs.Clause.{K, cell, terms}
+use Rattle.model.specs.Numbering.{number}
+use Rattle.dimacs.specs.Codes.{termCode}
+use Rattle.literals.specs.declared.ClauseId.{ClauseId}
+use Rattle.literals.specs.declared.ClauseId.the-variants.{SomeValue, NotBoth, BlankTail, Start, Left, Right, Both, Match, End, Zero, Add, Bound}
+
+-- the model's name
+abbrev pub nameOf : ClauseId → model.ClauseId
+nameOf (SomeValue f c) = model.SomeValue f c
+nameOf (NotBoth f c a b) = model.NotBoth f c a b
+nameOf (BlankTail f c) = model.BlankTail f c
+nameOf (Start p) = model.Start p
+nameOf (Left p i j) = model.Left p i j
+nameOf (Right p i j) = model.Right p i j
+nameOf (Both p i j) = model.Both p i j
+nameOf (Match p i j a) = model.Match p i j a
+nameOf (End p i j) = model.End p i j
+nameOf (Zero r) = model.Zero r
+nameOf (Add r k n d) = model.Add r k n d
+nameOf (Bound r n) = model.Bound r n
+
+-- The code of a literal that says of a cell that it is a or, with sign 1, that it is not: 0 for a letter cell, and past the last cell.
+abbrev pub placeCode : Sheet → Cell → ℕ → ℕ → ℕ
+placeCode s (letter b) a sign = 0
+placeCode s (place f c) a sign = 2 * number s (K f c a) + sign
+
+unfoldable pub cellCode : Sheet → List Cell → ℕ → ℕ → ℕ → ℕ
+cellCode s us i a sign = pick (ltb i (length us)) (placeCode s (cell us i) a sign) 0
+
+-- A clause as document 01 writes it, in codes, and 0 up to nine of them.
+unfoldable pub nine : Sheet → model.ClauseId → List ℕ
+nine s q = map (termCode s) (terms s q) ++ replicate (9 - length (terms s q)) 0

@@ -1,0 +1,287 @@
+// A clause by its name, and its literals as codes: twice the variable's number, and one more for its negation; 0 for none.
+use scan::wide;
+use shape::FIRST_PLACE;
+use shape::USED;
+ghost use mathlib.Core.Path.{_≡_};
+ghost use Prim.Native.Nat.{_+_, _-_, _*_, _<_, _≤_};
+ghost use lib.Dec.{ltb};
+ghost use lib.ListN.{length};
+ghost use lib.IntN.{pos, _+ℤ_, _*ℤ_};
+ghost use Rattle.model.specs.Sheet.{sheetOf, limit, template, constraint, coefficient};
+ghost use Rattle.model.specs.Range.{Admitted};
+ghost use Rattle.model.specs.Cells.{cells};
+ghost use Rattle.model.specs.Clause.{K, S, T, yes, no, only, blank};
+ghost use Rattle.model.specs.Clause as model;
+ghost use Rattle.model.specs.Numbering.{VariableIn};
+ghost use Rattle.model.specs.Numbering as variable;
+ghost use Rattle.model.specs.Count.{PlaceIn, IdIn};
+ghost use Rattle.dimacs.specs.Codes.{termCode};
+ghost use Rattle.literals.specs.Name.{nameOf, cellCode, nine};
+
+// The name of a clause: of a place of a field; of an equation, or a location of it; of a constraint. The sums of Add and Bound are signed.
+pub enum ClauseId {
+    SomeValue(usize, usize),
+    NotBoth(usize, usize, usize, usize),
+    BlankTail(usize, usize),
+    Start(usize),
+    Left(usize, usize, usize),
+    Right(usize, usize, usize),
+    Both(usize, usize, usize),
+    Match(usize, usize, usize, usize),
+    End(usize, usize, usize),
+    Zero(usize),
+    Add(usize, usize, i16, usize),
+    Bound(usize, i16),
+}
+
+// The most literals of a clause: nine values of a place.
+pub const MOST_LITERALS: usize = 9;
+
+// How far apart the bytes of the first places of two fields are.
+const PLACES: usize = 8;
+
+const LEFT: usize = 0;
+
+const RIGHT: usize = 1;
+
+const IS: usize = 0;
+
+const IS_NOT: usize = 1;
+
+// The code of K(f,c,a) or, with sign 1, of its negation; so of S(p,i,j) and of T(r,k,n).
+fn place_code(sheet: &[u8], f: usize, c: usize, a: usize, sign: usize) -> usize
+    requires { ⌜ Admitted (now sheet) × VariableIn (sheetOf (now sheet)) (K f c a) × (sign ≤ 1) ⌝ }
+    ensures { λ r. ⌜ r ≡ 2 * variable.number (sheetOf (now (sheet .entry))) (K f c a) + sign ⌝ }
+{
+    2 * numbering::place_number(sheet, f, c, a) + sign
+}
+
+fn location_code(sheet: &[u8], p: usize, i: usize, j: usize, sign: usize) -> usize
+    requires { ⌜ Admitted (now sheet) × VariableIn (sheetOf (now sheet)) (S p i j) × (sign ≤ 1) ⌝ }
+    ensures { λ r. ⌜ r ≡ 2 * variable.number (sheetOf (now (sheet .entry))) (S p i j) + sign ⌝ }
+{
+    2 * numbering::location_number(sheet, p, i, j) + sign
+}
+
+fn sum_code(sheet: &[u8], r: usize, k: usize, n: i16, sign: usize) -> usize
+    requires { ⌜ Admitted (now sheet) × VariableIn (sheetOf (now sheet)) (T r k n) × (sign ≤ 1) ⌝ }
+    ensures { λ q. ⌜ q ≡ 2 * variable.number (sheetOf (now (sheet .entry))) (T r k n) + sign ⌝ }
+{
+    2 * numbering::sum_number(sheet, r, k, n) + sign
+}
+
+// The code of "cell i is a" or, with sign 1, of "cell i is not a": 0 for a letter cell, and past the last cell.
+fn cell_code(sheet: &[u8], p: usize, side: usize, i: usize, a: usize, sign: usize) -> usize
+    requires { ⌜ Admitted (now sheet) × (p < length (sheetOf (now sheet) .equations)) × (i ≤ 24) × (a ≤ blank (sheetOf (now sheet))) × (sign ≤ 1) ⌝ }
+    ensures { λ r. ⌜ r ≡ cellCode (sheetOf (now (sheet .entry))) (cells (sheetOf (now (sheet .entry))) (template (sheetOf (now (sheet .entry))) p side)) i a sign ⌝ }
+{
+    let x = shape::side(sheet, p, side)[i];
+    if x < FIRST_PLACE {
+        return 0;
+    }
+    if x == USED {
+        return 0;
+    }
+    let place = wide(x - FIRST_PLACE);
+    place_code(sheet, place / PLACES, place % PLACES, a, sign)
+}
+
+// The same of "cell i is blank".
+fn blank_code(sheet: &[u8], p: usize, side: usize, i: usize, sign: usize) -> usize
+    requires { ⌜ Admitted (now sheet) × (p < length (sheetOf (now sheet) .equations)) × (i ≤ 24) × (sign ≤ 1) ⌝ }
+    ensures { λ r. ⌜ r ≡ cellCode (sheetOf (now (sheet .entry))) (cells (sheetOf (now (sheet .entry))) (template (sheetOf (now (sheet .entry))) p side)) i (blank (sheetOf (now (sheet .entry)))) sign ⌝ }
+{
+    cell_code(sheet, p, side, i, shape::letters(sheet), sign)
+}
+
+// Every value of a place.
+fn some_value(sheet: &[u8], f: usize, c: usize) -> [usize; MOST_LITERALS]
+    requires { ⌜ Admitted (now sheet) × PlaceIn (sheetOf (now sheet)) f c ⌝ }
+    ensures { λ r. ⌜ r ≡ nine (sheetOf (now (sheet .entry))) (model.SomeValue f c) ⌝ }
+{
+    let first = numbering::place_number(sheet, f, c, 0);
+    let letters = shape::letters(sheet);
+    let mut codes = [0usize; MOST_LITERALS];
+    let mut a: usize = 0;
+    while a <= letters {
+        codes[a] = 2 * (first + a);
+        a += 1;
+    }
+    codes
+}
+
+// Not two values at once.
+fn not_both(sheet: &[u8], f: usize, c: usize, a: usize, b: usize) -> [usize; MOST_LITERALS]
+    requires { ⌜ Admitted (now sheet) × IdIn (sheetOf (now sheet)) (model.NotBoth f c a b) ⌝ }
+    ensures { λ r. ⌜ r ≡ nine (sheetOf (now (sheet .entry))) (model.NotBoth f c a b) ⌝ }
+{
+    let x = place_code(sheet, f, c, a, IS_NOT);
+    let y = place_code(sheet, f, c, b, IS_NOT);
+    [x, y, 0, 0, 0, 0, 0, 0, 0]
+}
+
+// A blank is followed by a blank.
+fn blank_tail(sheet: &[u8], f: usize, c: usize) -> [usize; MOST_LITERALS]
+    requires { ⌜ Admitted (now sheet) × IdIn (sheetOf (now sheet)) (model.BlankTail f c) ⌝ }
+    ensures { λ r. ⌜ r ≡ nine (sheetOf (now (sheet .entry))) (model.BlankTail f c) ⌝ }
+{
+    let letters = shape::letters(sheet);
+    let here = place_code(sheet, f, c, letters, IS_NOT);
+    let next = place_code(sheet, f, c + 1, letters, IS);
+    [here, next, 0, 0, 0, 0, 0, 0, 0]
+}
+
+// The first location is reached.
+fn start(sheet: &[u8], p: usize) -> [usize; MOST_LITERALS]
+    requires { ⌜ Admitted (now sheet) × IdIn (sheetOf (now sheet)) (model.Start p) ⌝ }
+    ensures { λ r. ⌜ r ≡ nine (sheetOf (now (sheet .entry))) (model.Start p) ⌝ }
+{
+    [location_code(sheet, p, 0, 0, IS), 0, 0, 0, 0, 0, 0, 0, 0]
+}
+
+// Document 01's B: past a blank on the left.
+fn left(sheet: &[u8], p: usize, i: usize, j: usize) -> [usize; MOST_LITERALS]
+    requires { ⌜ Admitted (now sheet) × IdIn (sheetOf (now sheet)) (model.Left p i j) ⌝ }
+    ensures { λ r. ⌜ r ≡ nine (sheetOf (now (sheet .entry))) (model.Left p i j) ⌝ }
+{
+    let here = location_code(sheet, p, i, j, IS_NOT);
+    let u = blank_code(sheet, p, LEFT, i, IS_NOT);
+    let next = location_code(sheet, p, i + 1, j, IS);
+    [here, u, next, 0, 0, 0, 0, 0, 0]
+}
+
+// Document 01's C: past a blank on the right.
+fn right(sheet: &[u8], p: usize, i: usize, j: usize) -> [usize; MOST_LITERALS]
+    requires { ⌜ Admitted (now sheet) × IdIn (sheetOf (now sheet)) (model.Right p i j) ⌝ }
+    ensures { λ r. ⌜ r ≡ nine (sheetOf (now (sheet .entry))) (model.Right p i j) ⌝ }
+{
+    let here = location_code(sheet, p, i, j, IS_NOT);
+    let u = blank_code(sheet, p, LEFT, i, IS);
+    let v = blank_code(sheet, p, RIGHT, j, IS_NOT);
+    let next = location_code(sheet, p, i, j + 1, IS);
+    [here, u, v, next, 0, 0, 0, 0, 0]
+}
+
+// Document 01's D: past two letters.
+fn both(sheet: &[u8], p: usize, i: usize, j: usize) -> [usize; MOST_LITERALS]
+    requires { ⌜ Admitted (now sheet) × IdIn (sheetOf (now sheet)) (model.Both p i j) ⌝ }
+    ensures { λ r. ⌜ r ≡ nine (sheetOf (now (sheet .entry))) (model.Both p i j) ⌝ }
+{
+    let here = location_code(sheet, p, i, j, IS_NOT);
+    let first = blank_code(sheet, p, LEFT, i, IS);
+    let second = blank_code(sheet, p, RIGHT, j, IS);
+    let next = location_code(sheet, p, i + 1, j + 1, IS);
+    [here, first, second, next, 0, 0, 0, 0, 0]
+}
+
+// Document 01's E: two letters are the same.
+fn matching(sheet: &[u8], p: usize, i: usize, j: usize, a: usize) -> [usize; MOST_LITERALS]
+    requires { ⌜ Admitted (now sheet) × IdIn (sheetOf (now sheet)) (model.Match p i j a) ⌝ }
+    ensures { λ r. ⌜ r ≡ nine (sheetOf (now (sheet .entry))) (model.Match p i j a) ⌝ }
+{
+    let here = location_code(sheet, p, i, j, IS_NOT);
+    let blank = blank_code(sheet, p, RIGHT, j, IS);
+    let u = cell_code(sheet, p, LEFT, i, a, IS_NOT);
+    let v = cell_code(sheet, p, RIGHT, j, a, IS);
+    [here, blank, u, v, 0, 0, 0, 0, 0]
+}
+
+// Document 01's F: where one side is used up the other has only blanks.
+fn end(sheet: &[u8], p: usize, i: usize, j: usize) -> [usize; MOST_LITERALS]
+    requires { ⌜ Admitted (now sheet) × IdIn (sheetOf (now sheet)) (model.End p i j) ⌝ }
+    ensures { λ r. ⌜ r ≡ nine (sheetOf (now (sheet .entry))) (model.End p i j) ⌝ }
+{
+    let here = location_code(sheet, p, i, j, IS_NOT);
+    let v = blank_code(sheet, p, RIGHT, j, IS);
+    let u = blank_code(sheet, p, LEFT, i, IS);
+    [here, v, u, 0, 0, 0, 0, 0, 0]
+}
+
+// The sum of no fields is 0.
+fn zero(sheet: &[u8], r: usize) -> [usize; MOST_LITERALS]
+    requires { ⌜ Admitted (now sheet) × IdIn (sheetOf (now sheet)) (model.Zero r) ⌝ }
+    ensures { λ q. ⌜ q ≡ nine (sheetOf (now (sheet .entry))) (model.Zero r) ⌝ }
+{
+    [sum_code(sheet, r, 0, 0, IS), 0, 0, 0, 0, 0, 0, 0, 0]
+}
+
+// A sum with field k of length d added.
+fn sum_with(sheet: &[u8], r: usize, k: usize, n: i16, d: usize) -> i16
+    requires { ⌜ Admitted (now sheet) × IdIn (sheetOf (now sheet)) (model.Add r k n d) ⌝ }
+    ensures { λ q. ⌜ q ≡ n +ℤ coefficient (constraint (sheetOf (now (sheet .entry))) r) k *ℤ pos d ⌝ }
+{
+    n + (sheet::coefficient(sheet, r, k) as i16) * (d as i16)
+}
+
+// Place d - 1 of field k is blank, so that the field is shorter than d: no literal where d is 0.
+fn shorter(sheet: &[u8], k: usize, d: usize) -> usize
+    requires { ⌜ Admitted (now sheet) × (k < length (sheetOf (now sheet) .limits)) × (d ≤ limit (sheetOf (now sheet)) k) ⌝ }
+    ensures { λ r. ⌜ r ≡ termCode (sheetOf (now (sheet .entry))) (only (ltb 0 d) (yes (K k (d - 1) (blank (sheetOf (now (sheet .entry))))))) ⌝ }
+{
+    if d == 0 {
+        return 0;
+    }
+    place_code(sheet, k, d - 1, shape::letters(sheet), IS)
+}
+
+// Place d of field k is not blank, so that the field is longer than d: no literal where d is its limit.
+fn longer(sheet: &[u8], k: usize, d: usize) -> usize
+    requires { ⌜ Admitted (now sheet) × (k < length (sheetOf (now sheet) .limits)) ⌝ }
+    ensures { λ r. ⌜ r ≡ termCode (sheetOf (now (sheet .entry))) (only (ltb d (limit (sheetOf (now (sheet .entry))) k)) (no (K k d (blank (sheetOf (now (sheet .entry))))))) ⌝ }
+{
+    if d >= shape::limit(sheet, k) {
+        return 0;
+    }
+    place_code(sheet, k, d, shape::letters(sheet), IS_NOT)
+}
+
+// One field more in a sum: unless field k has another length than d.
+fn add(sheet: &[u8], r: usize, k: usize, n: i16, d: usize) -> [usize; MOST_LITERALS]
+    requires { ⌜ Admitted (now sheet) × IdIn (sheetOf (now sheet)) (model.Add r k n d) ⌝ }
+    ensures { λ q. ⌜ q ≡ nine (sheetOf (now (sheet .entry))) (model.Add r k n d) ⌝ }
+{
+    let here = sum_code(sheet, r, k, n, IS_NOT);
+    let short = shorter(sheet, k, d);
+    let long = longer(sheet, k, d);
+    let next = sum_code(sheet, r, k + 1, sum_with(sheet, r, k, n, d), IS);
+    [here, short, long, next, 0, 0, 0, 0, 0]
+}
+
+// A final sum above the limit is not reached.
+fn bound(sheet: &[u8], r: usize, n: i16) -> [usize; MOST_LITERALS]
+    requires { ⌜ Admitted (now sheet) × IdIn (sheetOf (now sheet)) (model.Bound r n) ⌝ }
+    ensures { λ q. ⌜ q ≡ nine (sheetOf (now (sheet .entry))) (model.Bound r n) ⌝ }
+{
+    [
+        sum_code(sheet, r, shape::fields(sheet), n, IS_NOT),
+        0,
+        0,
+        0,
+        0,
+        0,
+        0,
+        0,
+        0,
+    ]
+}
+
+// The literals of a clause.
+pub fn codes(sheet: &[u8], id: ClauseId) -> [usize; MOST_LITERALS]
+    requires { ⌜ Admitted (now sheet) × IdIn (sheetOf (now sheet)) (nameOf id) ⌝ }
+    ensures { λ r. ⌜ r ≡ nine (sheetOf (now (sheet .entry))) (nameOf id) ⌝ }
+{
+    match id {
+        ClauseId::SomeValue(f, c) => some_value(sheet, f, c),
+        ClauseId::NotBoth(f, c, a, b) => not_both(sheet, f, c, a, b),
+        ClauseId::BlankTail(f, c) => blank_tail(sheet, f, c),
+        ClauseId::Start(p) => start(sheet, p),
+        ClauseId::Left(p, i, j) => left(sheet, p, i, j),
+        ClauseId::Right(p, i, j) => right(sheet, p, i, j),
+        ClauseId::Both(p, i, j) => both(sheet, p, i, j),
+        ClauseId::Match(p, i, j, a) => matching(sheet, p, i, j, a),
+        ClauseId::End(p, i, j) => end(sheet, p, i, j),
+        ClauseId::Zero(r) => zero(sheet, r),
+        ClauseId::Add(r, k, n, d) => add(sheet, r, k, n, d),
+        ClauseId::Bound(r, n) => bound(sheet, r, n),
+    }
+}
