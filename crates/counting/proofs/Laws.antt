@@ -1,4 +1,4 @@
--- Laws of totals, and of the parts of specs/Count as the code has them. Assumes nothing.
+-- The parts of specs/Count as the code has them. Assumes nothing.
 use mathlib.Core.Path.{_≡_, refl, ap, ap₂, sym, _∙_}
 use mathlib.Core.List.{List}
 use Prim.Native.Nat.{ℕ, suc, _+_, _-_, _*_, _<_, _≤_}
@@ -10,17 +10,12 @@ use Rattle.model.specs.Sheet.{Sheet, limit, constraint}
 use Rattle.model.specs.Range.{InRange}
 use Rattle.model.specs.Clause.{blank, fields, leftCells, rightCells, spread, ids}
 use Rattle.model.specs.Count.{used, atLetter, atField, locationCount, notBothCount, placeCount, fieldCount, locationSize, rowCount, equationCount, stepCount, within, constraintCount, kClauses, sClauses, clauseCount}
-use Rattle.model.proofs.Keeping.{total-same}
+use Rattle.model.proofs.Keeping.{total-none, total-same}
 use Rattle.model.proofs.Small.{cells-small}
 use Rattle.model.proofs.Totals.{field-total, clause-count}
 use Rattle.shape.specs.Bytes.{sideBytes, sideOf}
 use Rattle.shape.proofs.Sides.{side-at}
 use Rattle.model.proofs.Templates.{well-formed}
-
--- a total of nothing
-pub total-none : (h : ℕ → ℕ) → total 0 h ≡ 0
-unfolding total
-total-none h = refl
 
 -- the sides that a byte stands for
 pub says-used : (x : ℕ) → x ≡ 255 → sideOf x ≡ used

@@ -1,7 +1,8 @@
 -- What is written is the line of the model: of the first line, and of a clause by its nine codes. Assumes nothing.
 use mathlib.Core.Path.{_≡_, refl, sym, ap₂, _∙_}
 use mathlib.Core.List.{map}
-use Prim.Native.Nat.{ℕ, zero, suc, _-_, _<_}
+use Prim.Native.Nat.{ℕ, zero, suc, _-_, _<_, _≤_}
+use native.Mathlib.Omega.{arith}
 use lib.ListN.{length, replicate}
 use Rattle.model.specs.Lists.{All}
 use Rattle.model.specs.Sheet.{Sheet}
@@ -12,6 +13,7 @@ use Rattle.model.specs.Dimacs.{problemLine, line}
 use Rattle.model.proofs.Lists.{at}
 use Rattle.model.proofs.Named.{ids-in}
 use Rattle.model.proofs.Numbering.{variable-count}
+use Rattle.model.proofs.Lines.{problem-short}
 use Rattle.dimacs.specs.Codes.{termCode, codesLine}
 use Rattle.dimacs.proofs.Coded.{terms-line, padded-line}
 use Rattle.literals.specs.Name.{nine}
@@ -19,6 +21,9 @@ use Rattle.literals.specs.Name.{nine}
 pub first-line : (s : Sheet) (v c : ℕ) → v ≡ variableCount s → c ≡ length (ids s) → problemLine v c ≡ line s 0
 unfolding line
 first-line s v c e f = ap₂ problemLine (e ∙ sym (variable-count s)) f
+
+pub first-fits : (v c room : ℕ) → v ≤ 9999 → c ≤ 99999 → 80 ≤ room → length (problemLine v c) ≤ room
+first-fits v c room few many h = omega (arith, problem-short v c few many)
 
 zeros : (n : ℕ) → All (λ (z : ℕ). z ≡ 0) (replicate n 0)
 unfolding All

@@ -17,7 +17,7 @@ use Rattle.model.specs.Range.{InRange}
 use Rattle.model.specs.Clause.{ClauseId, SomeValue, NotBoth, BlankTail, Start, Left, Both, Match, Zero, Add, Bound, least, spread, idAt, blank, fields, leftCells, rightCells, none}
 use Rattle.model.specs.Count.{Side, used, atLetter, atField, SideIn, side, standing, locationCount, notBothCount, placeStart, fieldCount, locationSize, rowCount, equationStart, stepCount, within, constraintCount, constraintStart}
 use Rattle.model.proofs.Lists.{by-test}
-use Rattle.model.proofs.Keeping.{length-map-from, map-from-at, map-append, first-at, second-at, total-more}
+use Rattle.model.proofs.Keeping.{length-map-from, map-from-at, map-append, first-at, second-at, total-more, total-none}
 use Rattle.model.proofs.Integers.{sum-in}
 use Rattle.model.proofs.Small.{fields-few, least-small, spread-small, cells-small}
 use Rattle.model.proofs.Standing.{sides-in}
@@ -27,7 +27,7 @@ use Rattle.scan.proofs.Machine.{small-fits, small-back}
 use Rattle.shape.specs.Bytes.{sideBytes, sideOf}
 use Rattle.shape.proofs.Sides.{side-at}
 use Rattle.numbering.proofs.Laws.{sum-fits, sum-back}
-use Rattle.counting.proofs.Laws.{total-none, says-field, field-none, constraint-known}
+use Rattle.counting.proofs.Laws.{says-field, field-none, constraint-known}
 use Rattle.model.proofs.Templates.{well-formed}
 
 -- A search for number n through parts of sizes h: before the first part, past part i, and past the last part, where no number is.

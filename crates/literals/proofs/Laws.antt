@@ -12,16 +12,20 @@ use Rattle.model.specs.Sheet.{Sheet, template}
 use Rattle.model.specs.Range.{InRange}
 use Rattle.model.specs.Cells.{Cell, letter, place, cells}
 use Rattle.model.specs.Clause.{K, Term, yes, SomeValue, terms, holds, lacks, isBlank, notBlank, only, blank, cell}
-use Rattle.model.specs.Numbering.{VariableIn, number}
+use Rattle.model.specs.Numbering.{LocationIn, VariableIn, number}
 use Rattle.model.proofs.Lists.{at, by-test}
 use Rattle.model.proofs.Keeping.{map-map, length-from}
 use Rattle.model.proofs.Templates.{template-in}
-use Rattle.model.proofs.Small.{letters-few, fields-few, limit-small}
+use Rattle.model.proofs.Small.{letters-few, fields-few, limit-small, cells-small}
 use Rattle.model.proofs.Valid.{CellIn, cells-in}
 use Rattle.shape.specs.Bytes.{cellByte, sideBytes}
 use Rattle.shape.proofs.Sides.{cell-at, past-at}
 use Rattle.dimacs.specs.Codes.{termCode}
 use Rattle.literals.specs.Name.{placeCode, cellCode, nine}
+
+-- a location's places in its two sides
+pub location-few : (s : Sheet) → InRange s → (p i j : ℕ) → LocationIn s p i j → (i ≤ 24) × (j ≤ 24)
+location-few s ok p i j h = let few = cells-small s ok p (h .0) in (omega (arith, h, few), omega (arith, h, few))
 
 -- nine codes, the first four of which agree
 pub same-nine : {a b c d a′ b′ c′ d′ : ℕ} → a ≡ a′ → b ≡ b′ → c ≡ c′ → d ≡ d′ → (a ∷ b ∷ c ∷ d ∷ 0 ∷ 0 ∷ 0 ∷ 0 ∷ 0 ∷ []) ≡ (a′ ∷ b′ ∷ c′ ∷ d′ ∷ 0 ∷ 0 ∷ 0 ∷ 0 ∷ 0 ∷ [])

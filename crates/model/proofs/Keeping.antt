@@ -45,12 +45,7 @@ module _ {A : Type 0} (P : A → Type 0) where
   keep-in t [] h = tt
   keep-in t (x ∷ xs) h =
       append-in P (when (t x) (x ∷ [])) (keep t xs) (when-in (t x) (x ∷ []) (λ e. one-in (h .0 e))) (keep-in t xs (h .1))
-
   -- each element in its place
-  pub at-in : (d : A) (xs : List A) → ((i : ℕ) → i < length xs → P (getD xs i d)) → All P xs
-  unfolding All
-  at-in d [] f = tt
-  at-in d (x ∷ xs) f = (f 0 (omega arith), at-in d xs (λ i h. f (suc i) (omega arith)))
 
 -- the numbers from a on, and those below n
 pub length-from : (a n : ℕ) → length (from a n) ≡ n
@@ -96,12 +91,6 @@ map-from-at h d a zero i k = absurd (omega arith)
 map-from-at h d a (suc n) zero k = let q : a + 0 ≡ a = omega arith in rw q
 map-from-at h d a (suc n) (suc i) k =
     let q : a + suc i ≡ suc a + i = omega arith in rw q (map-from-at h d (suc a) n i (omega arith))
-
-pub range-at : (d a n i : ℕ) → i < n → getD (from a n) i d ≡ a + i
-unfolding from
-range-at d a zero i h = absurd (omega arith)
-range-at d a (suc n) zero h = omega arith
-range-at d a (suc n) (suc i) h = let e = range-at d (suc a) n i (omega arith) in omega arith
 
 -- Maps, and what is written of each element.
 pub map-append : {A B : Type 0} (f : A → B) (xs ys : List A) → map f (xs ++ ys) ≡ map f xs ++ map f ys
@@ -225,6 +214,10 @@ total-same (suc n) h k f =
     omega arith
 
 -- a place in a part is a place in the whole
+pub total-none : (h : ℕ → ℕ) → total 0 h ≡ 0
+unfolding total
+total-none h = refl
+
 pub total-more : (n : ℕ) (h : ℕ → ℕ) → total (n + 1) h ≡ total n h + h n
 unfolding total
 total-more n h = rw add-one

@@ -142,7 +142,7 @@ module _ (s : Sheet) (ok : InRange s) where
       let n = length-append (each (map (signedNumber s) (literals s q)) literalBytes) (48 ∷ 10 ∷ []) in
       omega arith
 
-problem-short : (v c : ℕ) → v ≤ 9999 → c ≤ 99999 → length (problemLine v c) ≤ 17
+pub problem-short : (v c : ℕ) → v ≤ 9999 → c ≤ 99999 → length (problemLine v c) ≤ 17
 unfolding problemLine
 problem-short v c h k =
     let a = decimal-short-four v h in

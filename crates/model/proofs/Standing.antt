@@ -14,7 +14,7 @@ use Rattle.model.specs.Cells.{Cell, letter, place}
 use Rattle.model.specs.Clause.{Term, holds, lacks, isBlank, notBlank, only, ClauseId, Left, Right, Both, Match, End, terms, sure, leftOut, stays, locationIds, blank, cell, leftCells, rightCells}
 use Rattle.model.specs.Count.{SideIn, Side, used, atLetter, atField, cellSide, side, standing, locationCount}
 use Rattle.model.proofs.Lists.{by-test, and-split, at, or-false}
-use Rattle.model.proofs.Valid.{CellIn, left-in, right-in}
+use Rattle.model.proofs.Valid.{CellIn, cell-in}
 use Rattle.model.proofs.Keeping.{from-in, below-in, length-from, from-join, keep-append, keep-map, keep-when, keep-yes, keep-no, keep-all, keep-none, keep-same}
 
 -- A side of a location has a letter below l, if it has a letter.
@@ -29,7 +29,7 @@ side-in s us i h = by-test (ltb i (length us))
 
 pub sides-in : (s : Sheet) → WellFormed s → (p : ℕ) → p < length (s .equations) → (i j : ℕ)
     → SideIn (blank s) (side (leftCells s p) i) × SideIn (blank s) (side (rightCells s p) j)
-sides-in s ok p h i j = (side-in s (leftCells s p) i (left-in s ok p h i), side-in s (rightCells s p) j (right-in s ok p h j))
+sides-in s ok p h i j = (side-in s (leftCells s p) i (cell-in s ok p h 0 i), side-in s (rightCells s p) j (cell-in s ok p h 1 j))
 
 -- Which terms are always true through a letter cell.
 abbrev isLetter : Cell → Bool

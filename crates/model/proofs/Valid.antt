@@ -9,7 +9,7 @@ use lib.ListN.{length}
 use borrow.Author.Tests.{ltb-true}
 use Rattle.model.specs.Lists.{upTo, All}
 use Rattle.model.specs.Sheet as sheet
-use Rattle.model.specs.Sheet.{Symbol, Sheet, limit, equation, constraint}
+use Rattle.model.specs.Sheet.{Symbol, Sheet, limit, equation, constraint, template}
 use Rattle.model.specs.Range.{SymbolIn, WellFormed}
 use Rattle.model.specs.Cells.{Cell, letter, place, symbolCells, cells}
 use Rattle.model.specs.Clause.{K, Literal, is, isnt, Term, known, unknown, yes, no, holds, lacks, isBlank, notBlank, only, ClauseId, SomeValue, NotBoth, BlankTail, Start, Left, Right, Both, Match, End, Zero, Add, Bound, terms, literalOf, literals, blank, fields, cell, leftCells, rightCells}
@@ -44,21 +44,14 @@ module _ (s : Sheet) where
   unfolding cells
   cells-in t h = each-in (CellIn s) t (symbolCells s) (weaken _ _ t symbol-cells-in h)
 
-  holds-in : (u : Cell) (a : ℕ) → CellIn s u → a ≤ blank s → TermIn s (holds u a)
-  holds-in (letter b) a h k = tt
-  holds-in (place f c) a h k = (h .0, h .1, k)
+  -- of a cell: that it is a and that it is not, that it is blank and that it is not
+  value-in : (u : Cell) (a : ℕ) → CellIn s u → a ≤ blank s → TermIn s (holds u a) × TermIn s (lacks u a)
+  value-in (letter b) a h k = (tt, tt)
+  value-in (place f c) a h k = ((h .0, h .1, k), (h .0, h .1, k))
 
-  lacks-in : (u : Cell) (a : ℕ) → CellIn s u → a ≤ blank s → TermIn s (lacks u a)
-  lacks-in (letter b) a h k = tt
-  lacks-in (place f c) a h k = (h .0, h .1, k)
-
-  blank-in : (u : Cell) → CellIn s u → TermIn s (isBlank s u)
-  blank-in (letter b) h = tt
-  blank-in (place f c) h = (h .0, h .1, omega arith)
-
-  not-blank-in : (u : Cell) → CellIn s u → TermIn s (notBlank s u)
-  not-blank-in (letter b) h = tt
-  not-blank-in (place f c) h = (h .0, h .1, omega arith)
+  blank-in : (u : Cell) → CellIn s u → TermIn s (isBlank s u) × TermIn s (notBlank s u)
+  blank-in (letter b) h = (tt, tt)
+  blank-in (place f c) h = let k : blank s ≤ blank s = omega arith in ((h .0, h .1, k), (h .0, h .1, k))
 
   only-in : (b : Bool) (t : Term) → (b ≡ true → TermIn s t) → TermIn s (only b t)
   only-in true t h = h refl
@@ -70,19 +63,16 @@ module _ (s : Sheet) where
   literal-in (unknown l) h = (h, tt)
 
 module _ (s : Sheet) (ok : WellFormed s) where
-  -- the cells of an equation, and that one of them is blank where it is there
-  module _ (p : ℕ) (h : p < length (s .equations)) where
-    pub left-in : (i : ℕ) → i < length (leftCells s p) → CellIn s (cell (leftCells s p) i)
-    left-in i l = at (CellIn s) (leftCells s p) i (letter 0) (cells-in s (equation s p .left) (symbols-in s ok p h 0)) l
+  -- a cell of one side of an equation, and that it is blank, where it is there
+  module _ (p : ℕ) (h : p < length (s .equations)) (side i : ℕ) where
+    abbrev us : List Cell
+    us = cells s (template s p side)
 
-    pub right-in : (j : ℕ) → j < length (rightCells s p) → CellIn s (cell (rightCells s p) j)
-    right-in j l = at (CellIn s) (rightCells s p) j (letter 0) (cells-in s (equation s p .right) (symbols-in s ok p h 1)) l
+    pub cell-in : i < length us → CellIn s (cell us i)
+    cell-in l = at (CellIn s) us i (letter 0) (cells-in s (template s p side) (symbols-in s ok p h side)) l
 
-    left-blank : (i : ℕ) → TermIn s (only (ltb i (length (leftCells s p))) (isBlank s (cell (leftCells s p) i)))
-    left-blank i = only-in s (ltb i (length (leftCells s p))) _ (λ t. blank-in s (cell (leftCells s p) i) (left-in i (ltb-true i _ t)))
-
-    right-blank : (j : ℕ) → TermIn s (only (ltb j (length (rightCells s p))) (isBlank s (cell (rightCells s p) j)))
-    right-blank j = only-in s (ltb j (length (rightCells s p))) _ (λ t. blank-in s (cell (rightCells s p) j) (right-in j (ltb-true j _ t)))
+    if-blank : TermIn s (only (ltb i (length us)) (isBlank s (cell us i)))
+    if-blank = only-in s (ltb i (length us)) _ (λ t. blank-in s (cell us i) (cell-in (ltb-true i _ t)) .0)
 
   terms-in : (q : ClauseId) → IdIn s q → All (TermIn s) (terms s q)
   unfolding terms All
@@ -94,22 +84,22 @@ module _ (s : Sheet) (ok : WellFormed s) where
   terms-in (Start p) h = ((h, omega arith, omega arith), tt)
   terms-in (Left p i j) h =
       let l = h .0 in
-      (l, (not-blank-in s (cell (leftCells s p) i) (left-in p (l .0) i (h .1)), ((l .0, h .1, l .2), tt)))
+      (l, (blank-in s (cell (leftCells s p) i) (cell-in p (l .0) 0 i (h .1)) .1, ((l .0, h .1, l .2), tt)))
   terms-in (Right p i j) h =
       let l = h .0 in
-      (l, (left-blank p (l .0) i, (not-blank-in s (cell (rightCells s p) j) (right-in p (l .0) j (h .1)), ((l .0, l .1, h .1), tt))))
+      (l, (if-blank p (l .0) 0 i, (blank-in s (cell (rightCells s p) j) (cell-in p (l .0) 1 j (h .1)) .1, ((l .0, l .1, h .1), tt))))
   terms-in (Both p i j) h =
       let l = h .0 in
-      let u = left-in p (l .0) i (h .1) in
-      let v = right-in p (l .0) j (h .2) in
-      (l, (blank-in s (cell (leftCells s p) i) u, (blank-in s (cell (rightCells s p) j) v, ((l .0, h .1, h .2), tt))))
+      let u = cell-in p (l .0) 0 i (h .1) in
+      let v = cell-in p (l .0) 1 j (h .2) in
+      (l, (blank-in s (cell (leftCells s p) i) u .0, (blank-in s (cell (rightCells s p) j) v .0, ((l .0, h .1, h .2), tt))))
   terms-in (Match p i j a) h =
       let l = h .0 in
-      let u = left-in p (l .0) i (h .1) in
-      let v = right-in p (l .0) j (h .2) in
+      let u = cell-in p (l .0) 0 i (h .1) in
+      let v = cell-in p (l .0) 1 j (h .2) in
       let k : a ≤ blank s = omega (arith, h .3) in
-      (l, (blank-in s (cell (rightCells s p) j) v, (lacks-in s (cell (leftCells s p) i) a u k, (holds-in s (cell (rightCells s p) j) a v k, tt))))
-  terms-in (End p i j) h = (h, (right-blank p (h .0) j, (left-blank p (h .0) i, tt)))
+      (l, (blank-in s (cell (rightCells s p) j) v .0, (value-in s (cell (leftCells s p) i) a u k .1, (value-in s (cell (rightCells s p) j) a v k .0, tt))))
+  terms-in (End p i j) h = (h, (if-blank p (h .0) 1 j, (if-blank p (h .0) 0 i, tt)))
   terms-in (Zero r) h = ((h, omega arith, sum-zero s (constraint s r)), tt)
   terms-in (Add r k n d) h =
       let f = h .1 in

@@ -9,14 +9,11 @@ use Rattle.model.specs.Lists.{pick, from, upTo, total}
 use Rattle.model.specs.Sheet.{Constraint, Sheet, limit, constraint}
 use Rattle.model.specs.Cells.{Cell, letter, place}
 use Rattle.model.specs.Clause.{ClauseId, SomeValue, NotBoth, BlankTail, Start, Left, Right, Both, Match, End, Zero, Add, Bound, least, spread, blank, fields, cell, leftCells, rightCells}
-use Rattle.model.specs.Numbering.{SumIn, kSize, sSize, tSize}
+use Rattle.model.specs.Numbering.{LocationIn, SumIn, kSize, sSize, tSize}
 
 -- Which names there are: their ranges.
 abbrev pub PlaceIn : Sheet → ℕ → ℕ → Type 0
 PlaceIn s f c = (f < fields s) × (c < limit s f)
-
-abbrev pub LocationIn : Sheet → ℕ → ℕ → ℕ → Type 0
-LocationIn s p i j = (p < length (s .equations)) × (i ≤ length (leftCells s p)) × (j ≤ length (rightCells s p))
 
 abbrev pub IdIn : Sheet → ClauseId → Type 0
 IdIn s (SomeValue f c) = PlaceIn s f c

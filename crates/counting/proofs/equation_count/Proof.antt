@@ -7,8 +7,8 @@ use Rattle.model.specs.Lists.{total}
 use Rattle.model.specs.Sheet.{sheetOf}
 use Rattle.model.specs.Clause.{leftCells}
 use Rattle.model.specs.Count.{rowCount}
-use Rattle.model.proofs.Keeping.{total-more}
-use Rattle.counting.proofs.Laws.{total-none, row-known, equation-known}
+use Rattle.model.proofs.Keeping.{total-more, total-none}
+use Rattle.counting.proofs.Laws.{row-known, equation-known}
 use Rattle.counting.proofs.equation_count.Statement.{statement}
 use Rattle.counting.proofs.equation_count.Tie as tie
 

@@ -3,8 +3,7 @@ use mathlib.Core.Path.{_≡_}
 use Prim.Native.Nat.{ℕ, suc, _+_, _-_, _*_, _≤_}
 use native.Mathlib.Omega.{arith}
 use Rattle.model.specs.Lists.{total}
-use Rattle.model.proofs.Keeping.{total-more}
-use Rattle.counting.proofs.Laws.{total-none}
+use Rattle.model.proofs.Keeping.{total-more, total-none}
 use Rattle.counting.proofs.not_both_count.Statement.{statement}
 use Rattle.counting.proofs.not_both_count.Tie as tie
 

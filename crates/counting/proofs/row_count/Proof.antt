@@ -7,8 +7,7 @@ use lib.ListN.{getD}
 use Rattle.model.specs.Lists.{total}
 use Rattle.model.specs.Count.{locationCount}
 use Rattle.shape.specs.Bytes.{sideOf}
-use Rattle.model.proofs.Keeping.{total-more}
-use Rattle.counting.proofs.Laws.{total-none}
+use Rattle.model.proofs.Keeping.{total-more, total-none}
 use Rattle.counting.proofs.row_count.Statement.{statement}
 use Rattle.counting.proofs.row_count.Tie as tie
 

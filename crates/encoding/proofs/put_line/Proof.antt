@@ -11,7 +11,7 @@ use Rattle.model.specs.Dimacs.{problemLine, line}
 use Rattle.model.proofs.Lines.{line-short}
 use Rattle.dimacs.specs.Codes.{codesLine}
 use Rattle.literals.specs.Name.{nine}
-use Rattle.encoding.proofs.Laws.{first-line, later-line, id-in}
+use Rattle.encoding.proofs.Laws.{first-line, first-fits, later-line, id-in}
 use Rattle.encoding.proofs.put_line.Statement.{statement}
 use Rattle.encoding.proofs.put_line.Tie as tie
 
@@ -33,9 +33,7 @@ is-first c =
 problem-line-requires : tie.Need-problem-line-requires
 problem-line-requires c κs =
     let at-start = c .before .before .before .before .before .before in
-    let s = sheetOf (at-start .args .sheet .now) in
-    let e = ap length (is-first (c .before)) in
-    omega (arith, line-short s (at-start .pre .0 .1) 0 (omega arith), at-start .pre .2)
+    first-fits _ _ _ (omega (arith, c .before .before .variable-count .ensures .1)) (omega (arith, c .before .clause-count .ensures .1)) (omega (arith, at-start .pre .2))
 
 same-length : tie.Need-same-length
 same-length c = search needs
