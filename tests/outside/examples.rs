@@ -73,6 +73,13 @@ const SPELLING: [(char, &[u8], Texts, &str); 3] = [
     ),
 ];
 
+/// The sheets of all examples.
+pub fn sheets() -> Vec<&'static [u8]> {
+    let clashing = CLASHING.map(|(_, sheet, _)| sheet);
+    let spelling = SPELLING.map(|(_, sheet, _, _)| sheet);
+    [&clashing[..], &spelling[..]].concat()
+}
+
 /// Just the fillings that are listed clash.
 fn clashing(test: &mut Test) {
     for (name, bytes, listed) in CLASHING {

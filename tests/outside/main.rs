@@ -1,8 +1,10 @@
 //! Compares the static library with plain answers to the same calls, some hundred thousand times
 //! each, and ends with status 1 at the first case on which the two differ. With the word `clauses`
 //! it tests nothing, and prints the clause file of the sheet on standard input from the plain
-//! writer.
+//! writer. With the word `solvers` and names of SAT solvers it gives the library's clause files to
+//! these, and compares what they say with brute force.
 
+mod assignment;
 mod brute;
 mod changes;
 mod checking;
@@ -12,6 +14,7 @@ mod fillings;
 mod lent;
 mod orders;
 mod planted;
+mod question;
 mod random;
 mod reader;
 mod reading;
@@ -19,6 +22,8 @@ mod refusal;
 mod report;
 mod shapes;
 mod sheets;
+mod solver;
+mod solving;
 mod speller;
 mod tally;
 mod test;
@@ -28,13 +33,15 @@ mod writing;
 use std::io::{self, Read};
 
 fn main() -> io::Result<()> {
-    match std::env::args().nth(1).as_deref() {
+    let mut words = std::env::args().skip(1);
+    match words.next().as_deref() {
         None => test_all(),
         Some("clauses") => {
             let mut sheet = Vec::new();
             io::stdin().read_to_end(&mut sheet)?;
             writer::print(&sheet)?;
         }
+        Some("solvers") => solving::run(&words.collect::<Vec<String>>()),
         Some(word) => panic!("no such word: {word}"),
     }
     Ok(())

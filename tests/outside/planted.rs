@@ -19,6 +19,32 @@ pub fn plant(random: &mut Random, sheet: &mut Sheet, filling: &Filling) {
             std::mem::swap(&mut pair.left, &mut pair.right);
         }
     }
+    plant_rules(random, sheet, filling);
+}
+
+/// Makes one filling fit every other pair and another filling the pairs between, so that a field
+/// may need two texts at once. Many pairs come to share a template, and the other one is letters
+/// alone, on the same side in all.
+pub fn plant_two(random: &mut Random, sheet: &mut Sheet, fillings: &[Filling; 2]) {
+    let first = sheet.pairs[0].left.clone();
+    let swapped = random.chance(50);
+    for (number, pair) in sheet.pairs.iter_mut().enumerate() {
+        if random.chance(70) {
+            pair.left = first.clone();
+        }
+        let text = speller::text(&pair.left, &fillings[number % 2]);
+        if text.len() <= MOST_SYMBOLS {
+            pair.right = text.into_iter().map(Symbol::Letter).collect();
+        }
+        if swapped {
+            std::mem::swap(&mut pair.left, &mut pair.right);
+        }
+    }
+    plant_rules(random, sheet, &fillings[0]);
+}
+
+/// Makes each rule hold, often only just.
+fn plant_rules(random: &mut Random, sheet: &mut Sheet, filling: &Filling) {
     for rule in &mut sheet.rules {
         let above = random.one_of(&[0, 0, 1, 2, 1000]);
         rule.limit = speller::sum(rule, filling) as i16 + above;

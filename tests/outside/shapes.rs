@@ -7,25 +7,37 @@ use crate::writer::{self, Cell};
 /// A name, and whether it fits a sheet.
 pub struct Shape(pub &'static str, fn(&Sheet) -> bool);
 
+const NO_FIELDS: Shape = Shape("no fields", |sheet| sheet.limits.is_empty());
+const NO_FIELDS_BUT_RULES: Shape = Shape("no fields, but rules", |sheet| {
+    sheet.limits.is_empty() && !sheet.rules.is_empty()
+});
+const LIMIT_0: Shape = Shape("a field of limit 0", |sheet| sheet.limits.contains(&0));
+const ALL_OF_LIMIT_0: Shape = Shape("fields, all of limit 0", |sheet| {
+    !sheet.limits.is_empty() && sheet.limits.iter().all(|&limit| limit == 0)
+});
+const UNUSED_FIELD: Shape = Shape("a field that no template has", |sheet| {
+    (0..sheet.limits.len()).any(|field| is_unused(sheet, field))
+});
+const EMPTY_TEMPLATE: Shape = Shape("an empty template", |sheet| {
+    any_pair(sheet, |pair| pair.left.is_empty() || pair.right.is_empty())
+});
+const EMPTY_PAIR: Shape = Shape("two empty templates in a pair", |sheet| {
+    any_pair(sheet, |pair| pair.left.is_empty() && pair.right.is_empty())
+});
+const SHARED_PLACE: Shape = Shape("one place on both sides", |sheet| {
+    any_shared_cell(sheet, |cell| matches!(cell, Cell::Place(..)))
+});
+
+/// What is special about a sheet of any size.
 pub const ALL: [Shape; 19] = [
-    Shape("no fields", |sheet| sheet.limits.is_empty()),
-    Shape("no fields, but rules", |sheet| {
-        sheet.limits.is_empty() && !sheet.rules.is_empty()
-    }),
-    Shape("a field of limit 0", |sheet| sheet.limits.contains(&0)),
-    Shape("fields, all of limit 0", |sheet| {
-        !sheet.limits.is_empty() && sheet.limits.iter().all(|&limit| limit == 0)
-    }),
-    Shape("a field that no template has", has_unused_field),
-    Shape("an empty template", |sheet| {
-        any_pair(sheet, |pair| pair.left.is_empty() || pair.right.is_empty())
-    }),
-    Shape("two empty templates in a pair", |sheet| {
-        any_pair(sheet, |pair| pair.left.is_empty() && pair.right.is_empty())
-    }),
-    Shape("one place on both sides", |sheet| {
-        any_shared_cell(sheet, |cell| matches!(cell, Cell::Place(..)))
-    }),
+    NO_FIELDS,
+    NO_FIELDS_BUT_RULES,
+    LIMIT_0,
+    ALL_OF_LIMIT_0,
+    UNUSED_FIELD,
+    EMPTY_TEMPLATE,
+    EMPTY_PAIR,
+    SHARED_PLACE,
     Shape("one letter on both sides", |sheet| {
         any_shared_cell(sheet, |cell| matches!(cell, Cell::Letter(_)))
     }),
@@ -64,19 +76,56 @@ pub const ALL: [Shape; 19] = [
     }),
 ];
 
+/// What is special about a small sheet.
+pub const OF_SMALL: [Shape; 16] = [
+    NO_FIELDS,
+    NO_FIELDS_BUT_RULES,
+    LIMIT_0,
+    ALL_OF_LIMIT_0,
+    UNUSED_FIELD,
+    EMPTY_TEMPLATE,
+    EMPTY_PAIR,
+    SHARED_PLACE,
+    Shape("a field of limit 3 or more", |sheet| {
+        sheet.limits.iter().any(|&limit| limit >= 3)
+    }),
+    Shape("a field that only a rule has", |sheet| {
+        (0..sheet.limits.len()).any(|field| is_only_in_a_rule(sheet, field))
+    }),
+    Shape("several pairs", |sheet| sheet.pairs.len() > 1),
+    Shape("empty templates alone", |sheet| {
+        !any_pair(sheet, |pair| {
+            !pair.left.is_empty() || !pair.right.is_empty()
+        })
+    }),
+    Shape("no rules", |sheet| sheet.rules.is_empty()),
+    Shape("rules", |sheet| !sheet.rules.is_empty()),
+    Shape("several rules", |sheet| sheet.rules.len() > 1),
+    Shape("a negative coefficient", |sheet| {
+        let mut coefficients = sheet.rules.iter().flat_map(|rule| &rule.coefficients);
+        coefficients.any(|&coefficient| coefficient < 0)
+    }),
+];
+
 /// The names that fit a sheet.
-pub fn of(sheet: &Sheet) -> Vec<&'static str> {
-    let fitting = ALL.iter().filter(|shape| shape.1(sheet));
+pub fn of(sheet: &Sheet, shapes: &[Shape]) -> Vec<&'static str> {
+    let fitting = shapes.iter().filter(|shape| shape.1(sheet));
     fitting.map(|shape| shape.0).collect()
 }
 
-fn has_unused_field(sheet: &Sheet) -> bool {
-    let mut fields = (0..sheet.limits.len()).map(|field| Symbol::Field(field as u8));
-    fields.any(|field| {
-        !any_pair(sheet, |pair| {
-            pair.left.contains(&field) || pair.right.contains(&field)
-        })
+fn is_unused(sheet: &Sheet, field: usize) -> bool {
+    let symbol = Symbol::Field(field as u8);
+    !any_pair(sheet, |pair| {
+        pair.left.contains(&symbol) || pair.right.contains(&symbol)
     })
+}
+
+/// Can a field's length change a rule's sum, and nothing else?
+fn is_only_in_a_rule(sheet: &Sheet, field: usize) -> bool {
+    let mut coefficients = sheet.rules.iter().map(|rule| rule.coefficients[field]);
+    sheet.limits[field] > 0
+        && is_unused(sheet, field)
+        && coefficients.any(|coefficient| coefficient != 0)
 }
 
 fn any_pair(sheet: &Sheet, test: impl Fn(&Pair) -> bool) -> bool {

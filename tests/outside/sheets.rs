@@ -47,6 +47,9 @@ fn symbol_byte(symbol: &Symbol) -> u8 {
     }
 }
 
+/// The most fillings of a small sheet: of three fields of limit 2, with three letters.
+const MOST_FILLINGS: usize = 2197;
+
 /// How large a sheet is to be.
 struct Size {
     /// Of letters, fields, pairs and rules.
@@ -95,6 +98,32 @@ pub fn small(random: &mut Random) -> Sheet {
         symbols: [0, 4],
     };
     sheet_of(random, &size)
+}
+
+/// A valid sheet with at most 2197 fillings, with any counts and limits that allow it.
+pub fn of_few_fillings(random: &mut Random) -> Sheet {
+    let (l, v, greatest_limit) = loop {
+        let l = count(random, 1, MOST_LETTERS);
+        let v = count(random, 1, MOST_FIELDS);
+        let limit = count(random, 1, usize::from(GREATEST_LIMIT));
+        if filling_count(l, v, limit) <= MOST_FILLINGS {
+            break (l, v, limit as u8);
+        }
+    };
+    let e = count(random, 1, MOST_PAIRS);
+    let r = count(random, 0, MOST_RULES);
+    let size = Size {
+        counts: [l, v, e, r],
+        greatest_limit,
+        symbols: [0, 6],
+    };
+    sheet_of(random, &size)
+}
+
+/// How many fillings there are for `l` letters and `v` fields of one limit.
+fn filling_count(l: usize, v: usize, limit: usize) -> usize {
+    let texts: usize = (0..=limit as u32).map(|length| l.pow(length)).sum();
+    texts.saturating_pow(v as u32)
 }
 
 /// A number from `least` to `most`, often one of the two.

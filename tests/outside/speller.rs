@@ -82,7 +82,8 @@ fn read_field(field: &[u8], limit: u8, l: usize) -> Result<Vec<u8>, Refusal> {
     Ok(text.to_vec())
 }
 
-fn judge(sheet: &Sheet, filling: &Filling) -> Verdict {
+/// Whether a legal filling clashes.
+pub fn judge(sheet: &Sheet, filling: &Filling) -> Verdict {
     for (number, pair) in sheet.pairs.iter().enumerate() {
         if text(&pair.left, filling) != text(&pair.right, filling) {
             return Verdict::PairDiffers(number);

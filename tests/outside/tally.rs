@@ -2,7 +2,7 @@
 
 use crate::report::require;
 
-/// How often each answer must have come up.
+/// How often each answer must have come up, where nothing else is said.
 const LEAST_OF_EACH: usize = 200;
 
 /// An answer in a word, or a refusal's number.
@@ -39,6 +39,11 @@ impl Tally {
 
     /// Prints every count, and fails if one is too low.
     pub fn finish(&self) {
+        self.finish_at(LEAST_OF_EACH);
+    }
+
+    /// Prints every count, and fails if one is below `least`.
+    pub fn finish_at(&self, least: usize) {
         for (answer, times) in &self.reached {
             match answer {
                 Ok(word) => println!("outside: {}: {word}: {times}", self.name),
@@ -46,7 +51,7 @@ impl Tally {
             }
         }
         require(
-            self.reached.iter().all(|row| row.1 >= LEAST_OF_EACH),
+            self.reached.iter().all(|row| row.1 >= least),
             "an answer was reached too seldom to be tested",
             &[("answers of", &self.name)],
         );

@@ -124,7 +124,7 @@ impl Test {
         hold(engine::count(&written.sheet), due(status, &counts), case);
         self.count.count(answer);
         if let Ok(sheet) = reader::read(&written.sheet) {
-            for shape in shapes::of(&sheet) {
+            for shape in shapes::of(&sheet, &shapes::ALL) {
                 self.shapes.count(Ok(shape));
             }
         }

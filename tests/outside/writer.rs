@@ -99,6 +99,11 @@ pub fn write(sheet: &[u8]) -> Written {
     }
 }
 
+/// Writes the clause file of a sheet that is known to be accepted.
+pub fn accepted(sheet: &[u8]) -> File {
+    file_of(&reader::accepted(sheet))
+}
+
 /// Prints a sheet's clause file as the clause program is to print it.
 pub fn print(sheet: &[u8]) -> io::Result<()> {
     let printed = match write(sheet).file {
@@ -110,8 +115,8 @@ pub fn print(sheet: &[u8]) -> io::Result<()> {
 
 /// The clause file of an accepted sheet.
 fn file_of(sheet: &Sheet) -> File {
-    let variables = variables(sheet);
-    let numbers = variables.iter().copied().zip(1..).collect();
+    let numbers = numbers(sheet);
+    let variables = numbers.len();
     let mut writer = Writer {
         numbers,
         clauses: Vec::new(),
@@ -128,18 +133,15 @@ fn file_of(sheet: &Sheet) -> File {
     let count = writer.clauses.len();
     let header = Line {
         kind: "line 0",
-        bytes: format!("p cnf {} {count}\n", variables.len()).into_bytes(),
+        bytes: format!("p cnf {variables} {count}\n").into_bytes(),
     };
     let mut lines = vec![header];
     lines.append(&mut writer.clauses);
-    File {
-        variables: variables.len(),
-        lines,
-    }
+    File { variables, lines }
 }
 
 #[derive(Clone, Copy, PartialEq, Eq, Hash)]
-enum Variable {
+pub enum Variable {
     /// K(f,c,a): place c of field f holds letter a, a = L meaning blank.
     K(usize, usize, usize),
     /// S(p,i,j): location (i,j) of pair p.
@@ -149,6 +151,11 @@ enum Variable {
 }
 
 use Variable::{K, S, T};
+
+/// All variables with their numbers.
+pub fn numbers(sheet: &Sheet) -> HashMap<Variable, usize> {
+    variables(sheet).into_iter().zip(1..).collect()
+}
 
 /// All variables, in order.
 fn variables(sheet: &Sheet) -> Vec<Variable> {

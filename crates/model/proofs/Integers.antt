@@ -1,15 +1,35 @@
 -- Whole numbers: what the sums under a constraint need. The sums of the first k fields are those from the least one on, and the next sum is
 -- one of the next ones. Assumes nothing.
 use mathlib.Core.Path.{_≡_, refl, sym, ap, ap₂, subst, _∙_}
-use Prim.Native.Nat.{ℕ, zero, suc, _+_, _-_, _*_, _≤_}
+use mathlib.Core.Bool.{Bool, true, false}
+use Prim.Native.Nat.{ℕ, zero, suc, _+_, _-_, _*_, _<_, _≤_}
 use native.Mathlib.Nat.{mul-le-mul}
 use native.Mathlib.Numerals.{add-one}
 use native.Mathlib.Omega.{arith}
+use lib.Dec.{eqb}
 use lib.IntN.{ℤ, pos, negsuc, negℤ, natAbs, _+ℤ_, _-ℤ_, _*ℤ_, +ℤ-assoc, +ℤ-comm, +ℤ-negℤ-cancel}
-use borrow.Author.Tests.{lt-ltb, le-ltb}
+use borrow.Author.Tests.{eqb-true, eq-eqb, lt-ltb, le-ltb}
 use Rattle.model.specs.Sheet.{Constraint, Sheet, limit, coefficient}
 use Rattle.model.specs.Clause.{lowest, least, spread, highest, greatest}
 use Rattle.model.specs.Numbering.{SumIn}
+use Rattle.model.proofs.Lists.{never}
+
+-- a test of equality
+abbrev pub eqZ : ℤ → ℤ → Bool
+eqZ (pos a) (pos b) = eqb a b
+eqZ (pos a) (negsuc b) = false
+eqZ (negsuc a) (pos b) = false
+eqZ (negsuc a) (negsuc b) = eqb a b
+
+pub eqZ-true : (a b : ℤ) → eqZ a b ≡ true → a ≡ b
+eqZ-true (pos a) (pos b) e = ap pos (eqb-true a b e)
+eqZ-true (pos a) (negsuc b) e = never e
+eqZ-true (negsuc a) (pos b) e = never e
+eqZ-true (negsuc a) (negsuc b) e = ap negsuc (eqb-true a b e)
+
+pub eqZ-refl : (a : ℤ) → eqZ a a ≡ true
+eqZ-refl (pos a) = eq-eqb a a refl
+eqZ-refl (negsuc a) = eq-eqb a a refl
 
 pub shuffle : (a b c d : ℤ) → (a +ℤ b) +ℤ (c +ℤ d) ≡ (a +ℤ c) +ℤ (b +ℤ d)
 shuffle a b c d =
@@ -117,10 +137,10 @@ module _ (s : Sheet) (c : Constraint) where
       ∙ ap₂ _+ℤ_ (spread-is k) (highest-is (coefficient c k) (limit s k))
 
   -- "sum their limits allow": for lengths within the limits the sum is one of these, and both ends are reached
-  pub sum-of-lengths : (d : ℕ → ℕ) → ((f : ℕ) → d f ≤ limit s f) → (k : ℕ) → SumIn s c k (sumOf c d k)
+  pub sum-of-lengths : (d : ℕ → ℕ) (k : ℕ) → ((f : ℕ) → f < k → d f ≤ limit s f) → SumIn s c k (sumOf c d k)
   unfolding sumOf
-  sum-of-lengths d h zero = sum-zero
-  sum-of-lengths d h (suc k) = sum-next k (sumOf c d k) (d k) (sum-of-lengths d h k) (h k)
+  sum-of-lengths d zero h = sum-zero
+  sum-of-lengths d (suc k) h = sum-next k (sumOf c d k) (d k) (sum-of-lengths d k (λ f l. h f (omega arith))) (h k (omega arith))
 
   pub least-reached : (k : ℕ) → sumOf c (λ f. lowestAt (coefficient c f) (limit s f)) k ≡ least s c k
   unfolding sumOf least

@@ -11,8 +11,8 @@ use lib.Dec.{eqb}
 use lib.ListN.{length, getD, length-append, length-map, List·getD-append}
 use lib.Seq.{getD-append-add}
 use borrow.Author.Tests.{eqb-true, eqb-false}
-use Rattle.model.specs.Lists.{each, from, upTo, when, keep, total, All}
-use Rattle.model.proofs.Lists.{never, by-test, append-in, append-out, map-in, each-in, each-out, each-same, below-out, from-more}
+use Rattle.model.specs.Lists.{each, from, upTo, any, when, keep, total, All}
+use Rattle.model.proofs.Lists.{never, by-test, or-left, or-right, append-in, append-out, map-in, each-in, each-out, each-same, below-out, from-more}
 
 -- P of every element of a list of one, of a list that a test may drop, of what a test keeps
 module _ {A : Type 0} (P : A → Type 0) where
@@ -45,7 +45,6 @@ module _ {A : Type 0} (P : A → Type 0) where
   keep-in t [] h = tt
   keep-in t (x ∷ xs) h =
       append-in P (when (t x) (x ∷ [])) (keep t xs) (when-in (t x) (x ∷ []) (λ e. one-in (h .0 e))) (keep-in t xs (h .1))
-  -- each element in its place
 
 -- the numbers from a on, and those below n
 pub length-from : (a n : ℕ) → length (from a n) ≡ n
@@ -76,6 +75,20 @@ module _ {A : Type 0} (P : A → Type 0) (n : ℕ) (f : ℕ → List A) where
   pub loop-in : ((i : ℕ) → i < n → All P (f i)) → All P (each (upTo n) f)
   loop-in h = each-in P (upTo n) f (below-in (λ i. All P (f i)) n h)
 
+-- how much is written, where of one no more than k is
+pub each-most : {A B : Type 0} (k : ℕ) (f : A → List B) (xs : List A) → All (λ x. length (f x) ≤ k) xs → length (each xs f) ≤ length xs * k
+unfolding All each
+each-most k f [] h = omega arith
+each-most k f (x ∷ xs) h =
+    let this = h .0 in
+    let others = each-most k f xs (h .1) in
+    let n = length-append (f x) (each xs f) in
+    let m = suc-mul (length xs) k in
+    omega arith
+
+pub each-short : {A : Type 0} (f : ℕ → List A) (k n : ℕ) → ((i : ℕ) → i < n → length (f i) ≤ k) → length (each (upTo n) f) ≤ n * k
+each-short f k n h = subst (λ m. length (each (upTo n) f) ≤ m * k) (length-from 0 n) (each-most k f (upTo n) (below-in (λ i. length (f i) ≤ k) n h))
+
 -- Ranges.
 pub from-join : (a m n : ℕ) → from a (m + n) ≡ from a m ++ from (a + m) n
 unfolding from
@@ -85,12 +98,19 @@ from-join a (suc m) n =
     let q : a + suc m ≡ suc a + m = omega arith in
     rw (e, q) (ap (λ z. a ∷ z) (from-join (suc a) m n))
 
-pub map-from-at : {A : Type 0} (h : ℕ → A) (d : A) (a n i : ℕ) → i < n → getD (map h (from a n)) i d ≡ h (a + i)
+pub from-is : (a n i : ℕ) → i < n → getD (from a n) i 0 ≡ a + i
 unfolding from
-map-from-at h d a zero i k = absurd (omega arith)
-map-from-at h d a (suc n) zero k = let q : a + 0 ≡ a = omega arith in rw q
-map-from-at h d a (suc n) (suc i) k =
-    let q : a + suc i ≡ suc a + i = omega arith in rw q (map-from-at h d (suc a) n i (omega arith))
+from-is a zero i k = absurd (omega arith)
+from-is a (suc n) zero k = omega arith
+from-is a (suc n) (suc i) k = from-is (suc a) n i (omega arith) ∙ (let e : suc a + i ≡ a + suc i = omega arith in e)
+
+pub map-at : {A B : Type 0} (f : A → B) (d : A) (e : B) (xs : List A) (i : ℕ) → i < length xs → getD (map f xs) i e ≡ f (getD xs i d)
+map-at f d e [] i h = absurd (omega arith)
+map-at f d e (x ∷ xs) zero h = refl
+map-at f d e (x ∷ xs) (suc i) h = map-at f d e xs i (omega arith)
+
+pub map-from-at : {A : Type 0} (h : ℕ → A) (d : A) (a n i : ℕ) → i < n → getD (map h (from a n)) i d ≡ h (a + i)
+map-from-at h d a n i k = let m = length-from a n in map-at h 0 d (from a n) i (omega arith) ∙ ap h (from-is a n i k)
 
 -- Maps, and what is written of each element.
 pub map-append : {A B : Type 0} (f : A → B) (xs ys : List A) → map f (xs ++ ys) ≡ map f xs ++ map f ys
@@ -104,11 +124,6 @@ map-next f n = let e : 0 + n ≡ n = omega arith in rw (from-more 0 n, e) (map-a
 pub map-map : {A B C : Type 0} (g : B → C) (f : A → B) (xs : List A) → map g (map f xs) ≡ map (λ x. g (f x)) xs
 map-map g f [] = refl
 map-map g f (x ∷ xs) = ap (λ z. g (f x) ∷ z) (map-map g f xs)
-
-pub map-at : {A B : Type 0} (f : A → B) (d : A) (e : B) (xs : List A) (i : ℕ) → i < length xs → getD (map f xs) i e ≡ f (getD xs i d)
-map-at f d e [] i h = absurd (omega arith)
-map-at f d e (x ∷ xs) zero h = refl
-map-at f d e (x ∷ xs) (suc i) h = map-at f d e xs i (omega arith)
 
 pub map-each : {A B C : Type 0} (g : B → C) (xs : List A) (f : A → List B) → map g (each xs f) ≡ each xs (λ x. map g (f x))
 unfolding each
@@ -171,10 +186,22 @@ module _ {A : Type 0} (t : A → Bool) where
   keep-none [] h = refl
   keep-none (x ∷ xs) h = rw (h .0) (keep-none xs (h .1))
 
-  pub keep-same : (u : A → Bool) (xs : List A) → ((x : A) → t x ≡ u x) → keep t xs ≡ keep u xs
-  unfolding keep
-  keep-same u [] f = refl
-  keep-same u (x ∷ xs) f = ap₂ (λ b z. when b (x ∷ []) ++ z) (f x) (keep-same u xs f)
+  keep-same : (u : A → Bool) (xs : List A) → All (λ x. t x ≡ u x) xs → keep t xs ≡ keep u xs
+  unfolding keep All
+  keep-same u [] h = refl
+  keep-same u (x ∷ xs) h = ap₂ (λ b z. when b (x ∷ []) ++ z) (h .0) (keep-same u xs (h .1))
+
+-- what two tests keep of the numbers below n, and two functions make of them, where they agree
+pub keep-below : (t u : ℕ → Bool) (n : ℕ) → ((i : ℕ) → i < n → t i ≡ u i) → keep t (upTo n) ≡ keep u (upTo n)
+keep-below t u n e = keep-same t u (upTo n) (below-in (λ i. t i ≡ u i) n e)
+
+pub map-below : {A : Type 0} (f h : ℕ → A) (n : ℕ) → ((i : ℕ) → i < n → f i ≡ h i) → map f (upTo n) ≡ map h (upTo n)
+unfolding All
+map-below f h n e = same-all (upTo n) (below-in (λ i. f i ≡ h i) n e)
+  where
+    same-all : (xs : List ℕ) → All (λ i. f i ≡ h i) xs → map f xs ≡ map h xs
+    same-all [] k = refl
+    same-all (x ∷ xs) k = ap₂ _∷_ (k .0) (same-all xs (k .1))
 
 -- what is written of the numbers below n, where two ways of writing agree, or agree in what a test keeps
 pub loop-same : {A : Type 0} (f h : ℕ → List A) (n : ℕ) → ((i : ℕ) → i < n → f i ≡ h i) → each (upTo n) f ≡ each (upTo n) h
@@ -193,6 +220,35 @@ keep-above t k w h low high =
     ap (λ n. keep t (upTo n)) e ∙ ap (keep t) (from-join 0 k (w - k)) ∙ keep-append t (upTo k) (from (0 + k) (w - k))
     ∙ ap₂ _++_ (keep-none t (upTo k) (below-in (λ n. t n ≡ false) k low)) (ap (λ n. keep t (from n (w - k))) z)
     ∙ keep-all t (from k (w - k)) (from-in (λ n. t n ≡ true) k (w - k) (λ n l m. high n l (omega arith)))
+
+-- a test that one number below n passes, and no other
+pub keep-one : (t : ℕ → Bool) (n a : ℕ) → a < n → t a ≡ true → ((b : ℕ) → b < n → t b ≡ true → b ≡ a) → keep t (upTo n) ≡ a ∷ []
+unfolding from
+keep-one t n a h e one =
+    let k : ℕ = n - suc a in
+    let m : n ≡ a + suc k = omega arith in
+    let z : 0 + a ≡ a = omega arith in
+    let fails : (b : ℕ) → b < n → (b ≡ a → ⊥) → t b ≡ false = λ b l d. by-test (t b) (λ p. absurd (d (one b l p))) (λ p. p) in
+    ap (λ j. keep t (upTo j)) m ∙ ap (keep t) (from-join 0 a (suc k)) ∙ keep-append t (upTo a) (from (0 + a) (suc k))
+    ∙ ap₂ _++_ (keep-none t (upTo a) (below-in (λ b. t b ≡ false) a (λ b l. fails b (omega arith) (λ d. omega arith)))) (ap (λ j. keep t (from j (suc k))) z)
+    ∙ keep-yes t a (from (suc a) k) e
+    ∙ ap (λ xs. a ∷ xs) (keep-none t (from (suc a) k) (from-in (λ b. t b ≡ false) (suc a) k (λ b l u. fails b (omega arith) (λ d. omega arith))))
+
+-- whether some number of a range passes a test
+module _ {A : Type 0} (p : A → Bool) (h : ℕ → A) where
+  pub any-out : (a n : ℕ) → any p (map h (from a n)) ≡ true → (i : ℕ) × (i < a + n) × (p (h i) ≡ true)
+  unfolding any from
+  any-out a zero e = never e
+  any-out a (suc n) e = by-test (p (h a))
+      (λ t. (a, omega arith, t))
+      (λ t. let r = any-out (suc a) n (rw t at e) in (r .0, omega (arith, r .1), r .2))
+
+  pub any-in : (a n i : ℕ) → a ≤ i → i < a + n → p (h i) ≡ true → any p (map h (from a n)) ≡ true
+  unfolding any from
+  any-in a zero i low high e = absurd (omega arith)
+  any-in a (suc n) i low high e = by-test (eqb a i)
+      (λ t. or-left _ (ap (λ j. p (h j)) (eqb-true a i t) ∙ e))
+      (λ t. or-right (p (h a)) (any-in (suc a) n i (lt-of-le-ne low (eqb-false a i t)) (omega arith) e))
 
 -- Totals.
 pub total-head : (n : ℕ) (h : ℕ → ℕ) → total (suc n) h ≡ h 0 + total n (λ i. h (suc i))
@@ -213,7 +269,6 @@ total-same (suc n) h k f =
     let this = f n (omega arith) in
     omega arith
 
--- a place in a part is a place in the whole
 pub total-none : (h : ℕ → ℕ) → total 0 h ≡ 0
 unfolding total
 total-none h = refl
@@ -222,6 +277,7 @@ pub total-more : (n : ℕ) (h : ℕ → ℕ) → total (n + 1) h ≡ total n h +
 unfolding total
 total-more n h = rw add-one
 
+-- a place in a part is a place in the whole
 pub total-fits : (n : ℕ) (h : ℕ → ℕ) (i k : ℕ) → i < n → k < h i → total i h + k < total n h
 unfolding total
 total-fits zero h i k lt lk = absurd (omega arith)

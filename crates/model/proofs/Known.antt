@@ -6,16 +6,16 @@ use mathlib.Core.List.{List, [], _∷_}
 use Prim.Native.Nat.{ℕ, _<_, _≤_}
 use native.Mathlib.Omega.{arith}
 use lib.ListN.{length, drop, length-drop, drop-of-length-le}
-use Rattle.model.specs.Lists.{Bytes}
+use Rattle.model.specs.Lists.{All, Bytes}
 use Rattle.model.specs.Sheet as sheet
 use Rattle.model.specs.Sheet.{Sheet, Step, got, fault, _then_, Counts, opening, walk, Reading, accepted, ended, read, countsOf, encode, isAccepted, Accepted, sheetOf, rest}
-use Rattle.model.specs.Range.{CountsIn, InRange}
+use Rattle.model.specs.Range.{EquationIn, CountsIn, InRange}
 use Rattle.model.specs.Calls.{refused, finished, fourCounts, readingOf, reading}
 use Rattle.model.proofs.Lists.{never}
 use Rattle.model.proofs.Steps.{went}
 use Rattle.model.proofs.Rests.{found}
 use Rattle.model.proofs.Opening.{opening-exact}
-use Rattle.model.proofs.Reading.{walk-counts, ended-accepted, accepted-encode}
+use Rattle.model.proofs.Reading.{walk-counts, walk-equations, ended-accepted, accepted-encode}
 
 -- The answer, by the header and the walk.
 pub reading-refused : (b : List ℕ) (n : ℕ) → opening b ≡ fault n → reading b ≡ refused n
@@ -60,6 +60,15 @@ unfolding read
 accepted-counts b h =
     let g = went (opening b) walk (ended-accepted (opening b then walk) (accepted-sheet b h)) in
     subst CountsIn (sym (walk-counts (g .value) (g .rest) (g .second))) (opening-exact b (g .first) .counts-in)
+
+-- so are the equations
+pub accepted-equations : (b : List ℕ) → Accepted b → All (EquationIn (length (sheetOf b .letters)) (sheetOf b .limits)) (sheetOf b .equations)
+unfolding read
+accepted-equations b h =
+    let g = went (opening b) walk (ended-accepted (opening b then walk) (accepted-sheet b h)) in
+    let few = opening-exact b (g .first) .counts-in .of-letters in
+    let e = ap (λ (c : Counts). c .letter-count) (walk-counts (g .value) (g .rest) (g .second)) in
+    rw e (walk-equations (g .value) (g .rest) (omega (arith, few)) (g .second))
 
 pub accepted-bytes : (b : List ℕ) → Bytes b → Accepted b → b ≡ encode (sheetOf b)
 accepted-bytes b y h = accepted-encode b y (accepted-sheet b h) .0

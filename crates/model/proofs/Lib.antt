@@ -1,4 +1,5 @@
 pub mod ClauseFiles
+pub mod Assigned
 pub mod Computed
 pub mod Answers
 pub mod Examples
@@ -37,3 +38,11 @@ pub mod Numbering
 pub mod Small
 pub mod Figures
 pub mod Lines
+pub mod Terms
+pub mod KClauses
+pub mod Locations
+pub mod SClauses
+pub mod TClauses
+pub mod Solutions
+pub mod Satisfying
+pub mod Satisfiable

@@ -4,7 +4,6 @@ use mathlib.Core.Path.{_≡_, refl, sym, ap, _∙_}
 use mathlib.Core.Bool.{Bool, true, false}
 use mathlib.Core.List.{List, [], _∷_, _++_, map, append-assoc}
 use Prim.Native.Nat.{ℕ, zero, suc, _+_, _-_, _*_, _≤_}
-use native.Mathlib.Nat.{suc-mul}
 use native.Mathlib.Omega.{arith}
 use lib.IntN.{ℤ, pos, negsuc, negℤ, natAbs}
 use lib.ListN.{length, length-append, length-map}
@@ -21,9 +20,9 @@ use Rattle.model.proofs.Known.{accepted-in-range}
 use Rattle.model.proofs.Operations.{writing-answered, sheet-finished, same-values, counting-counts}
 use Rattle.model.proofs.Named.{ids-in}
 use Rattle.model.proofs.Totals.{clause-count}
-use Rattle.model.proofs.Lists.{at, weaken, map-in, each-short, or-false}
+use Rattle.model.proofs.Lists.{at, weaken, map-in, or-false}
 use Rattle.model.proofs.Sums.{abs-neg}
-use Rattle.model.proofs.Keeping.{length-from}
+use Rattle.model.proofs.Keeping.{length-from, each-most, each-short}
 use Rattle.model.proofs.Numbering.{variable-count, positive, number-small}
 use Rattle.model.proofs.Small.{letters-few, variables-small, clauses-small}
 use Rattle.model.proofs.Figures.{Figure, decimal-digits, decimal-value, decimal-short, decimal-short-four}
@@ -77,16 +76,6 @@ unfolding line clauseLine numbersFrom
 numbers-line s n = literals-read (clause s (idAt s n)) (48 ∷ 10 ∷ [])
 
 -- How long lines are.
-each-most : {A B : Type 0} (k : ℕ) (f : A → List B) (xs : List A) → All (λ x. length (f x) ≤ k) xs → length (each xs f) ≤ length xs * k
-unfolding All each
-each-most k f [] h = omega arith
-each-most k f (x ∷ xs) h =
-    let this = h .0 in
-    let others = each-most k f xs (h .1) in
-    let n = length-append (f x) (each xs f) in
-    let m = suc-mul (length xs) k in
-    omega arith
-
 -- a number and the space after it
 literal-short : (z : ℤ) → natAbs z ≤ 9999 → length (literalBytes z) ≤ 6
 literal-short (pos n) h = let a = decimal-short-four n h in let b = length-append (decimal n) (32 ∷ []) in omega arith
@@ -123,7 +112,7 @@ module _ (s : Sheet) (ok : InRange s) where
   terms-few (Add r k n d) = omega arith
   terms-few (Bound r n) = omega arith
 
-  pub literals-few : (q : ClauseId) → length (literals s q) ≤ 9
+  literals-few : (q : ClauseId) → length (literals s q) ≤ 9
   unfolding literals
   literals-few q = let n = terms-few q in let h = each-most 1 literalOf (terms s q) (every _ one (terms s q)) in omega arith
     where

@@ -1,9 +1,8 @@
 -- Laws of specs/Lists: tests, and what holds of every element. Assumes nothing.
 use mathlib.Core.Path.{_≡_, refl, sym, ap, subst, _∙_}
-use mathlib.Core.Bool.{Bool, true, false, _&&_, _||_}
+use mathlib.Core.Bool.{Bool, true, false, not, _&&_, _||_}
 use mathlib.Core.List.{List, [], _∷_, _++_, map, append-assoc, append-nil}
-use Prim.Native.Nat.{ℕ, zero, suc, _+_, _*_, _<_, _≤_}
-use native.Mathlib.Nat.{suc-mul}
+use Prim.Native.Nat.{ℕ, zero, suc, _+_, _<_, _≤_}
 use native.Mathlib.Numerals.{add-one}
 use native.Mathlib.Omega.{arith}
 use lib.Arith.{lt-of-le-ne}
@@ -49,6 +48,26 @@ or-false false = refl
 pub or-cases : {P : Type 0} (a b : Bool) → (a || b) ≡ true → (a ≡ true → P) → (b ≡ true → P) → P
 or-cases true b h f g = f refl
 or-cases false b h f g = g h
+
+-- a disjunction as "if not the one, then the other", shown and used; `not a || b` as "if a, then b"
+pub or-else : (a : Bool) {b : Bool} → (a ≡ false → b ≡ true) → (a || b) ≡ true
+or-else true f = refl
+or-else false f = f refl
+
+pub or-other : {a b : Bool} → (a || b) ≡ true → a ≡ false → b ≡ true
+or-other h e = rw e at h
+
+pub imply : (a : Bool) {b : Bool} → (a ≡ true → b ≡ true) → (not a || b) ≡ true
+imply true f = f refl
+imply false f = refl
+
+pub implied : {a b : Bool} → (not a || b) ≡ true → a ≡ true → b ≡ true
+implied h e = rw e at h
+
+-- of what is left of a list of alternatives, the last one
+pub or-last : {a : Bool} → (a || false) ≡ true → a ≡ true
+or-last {a = true} h = refl
+or-last {a = false} h = h
 
 -- Two lists are equal exactly when the test passes.
 pub same-equal : (xs ys : List ℕ) → same xs ys ≡ true → xs ≡ ys
@@ -108,10 +127,10 @@ module _ {A : Type 0} (P : A → Type 0) where
   at (x ∷ xs) zero d h l = h .0
   at (x ∷ xs) (suc k) d h l = at xs k d (h .1) (omega arith)
 
-  pub from-at : (d : A) (xs : List A) → ((k : ℕ) → P (getD xs k d)) → All P xs
+  pub from-at : (d : A) (xs : List A) → ((k : ℕ) → k < length xs → P (getD xs k d)) → All P xs
   unfolding All
   from-at d [] h = tt
-  from-at d (x ∷ xs) h = (h 0, from-at d xs (λ k. h (suc k)))
+  from-at d (x ∷ xs) h = (h 0 (omega arith), from-at d xs (λ k l. h (suc k) (omega arith)))
 
   pub map-in : {B : Type 0} (f : B → A) (xs : List B) → All (λ x. P (f x)) xs → All P (map f xs)
   unfolding All
@@ -215,7 +234,7 @@ from-more a (suc n) =
     let k : suc a + n ≡ a + suc n = omega arith in
     rw e (ap (λ xs. a ∷ xs) (from-more (suc a) n ∙ ap (λ m. from (suc a) n ++ (m ∷ [])) k))
 
--- what is written of the numbers below n: of none, of one more, and no more than n times what one takes
+-- what is written of the numbers below n: of none, and of one more
 module _ {A : Type 0} (h : ℕ → List A) where
   pub each-none : each (upTo 0) h ≡ []
   unfolding each from
@@ -226,15 +245,3 @@ module _ {A : Type 0} (h : ℕ → List A) where
   each-more n =
       let e : 0 + n ≡ n = omega arith in
       rw (from-more 0 n, e) (each-append h (upTo n) (n ∷ []) ∙ ap (λ z. each (upTo n) h ++ z) (append-nil (h n)))
-
-  pub each-short : (k n : ℕ) → ((i : ℕ) → i < n → length (h i) ≤ k) → length (each (upTo n) h) ≤ n * k
-  unfolding each from
-  each-short k zero f = omega arith
-  each-short k (suc n) f =
-      let e : suc n ≡ n + 1 = omega arith in
-      let m = ap length (ap (λ j. each (upTo j) h) e ∙ each-more n) in
-      let l = length-append (each (upTo n) h) (h n) in
-      let before = each-short k n (λ i j. f i (omega arith)) in
-      let this = f n (omega arith) in
-      let times : suc n * k ≡ n * k + k = suc-mul n k in
-      omega arith

@@ -1,5 +1,5 @@
--- Which clauses `listed` lists: P of all its names is P of each name in its range. What holds of each clause, apart from order and number, is shown by this, and not
--- by the text of `listed`. Assumes nothing.
+-- Which clauses `listed` lists: P of all its names is P of each name in its range. What holds of each clause, apart from order and
+-- number, is shown by this, and not by the text of `listed`. Assumes nothing.
 use mathlib.Core.Path.{_≡_, refl, sym, subst}
 use mathlib.Core.Bool.{true, _&&_, _||_}
 use mathlib.Core.List.{List, [], _∷_, map}
@@ -218,7 +218,7 @@ module _ (s : Sheet) (P : ClauseId → Type 0) where
       (loop-in P _ _ (λ r a. constraint-in r (h .constraints r a))))
 
 -- Every clause there is has its name in range.
-pub listed-ids : (s : Sheet) → All (IdIn s) (listed s)
+listed-ids : (s : Sheet) → All (IdIn s) (listed s)
 listed-ids s = listed-in s (IdIn s) (record {
   places = λ f c a b. record {
     some-value = (a, b);

@@ -1,20 +1,17 @@
 -- The numbers of the variables: in document 01's order they are 1, 2, .. up to the variable count. Assumes nothing.
-use mathlib.Core.Path.{_≡_, refl, sym, ap, ap₂, _∙_}
+use mathlib.Core.Path.{_≡_, refl, sym, ap, ap₂, subst, _∙_}
 use mathlib.Core.List.{List, _∷_, _++_, map}
-use Prim.Native.Nat.{ℕ, zero, suc, _+_, _*_, _<_, _≤_}
+use Prim.Native.Nat.{ℕ, zero, suc, _+_, _-_, _*_, _<_, _≤_}
 use native.Mathlib.Nat.{suc-mul, mul-le-mul}
 use native.Mathlib.Omega.{arith}
-use lib.Arith.{lt-of-le-ne}
-use lib.Dec.{eqb}
-use lib.IntN.{ℤ, pos, _+ℤ_}
-use lib.ListN.{length, length-map}
-use borrow.Author.Tests.{eqb-true, eqb-false}
-use Rattle.model.specs.Lists.{each, from, upTo, total}
+use lib.IntN.{ℤ, pos, natAbs, _+ℤ_, _-ℤ_}
+use lib.ListN.{length, getD, length-map}
+use Rattle.model.specs.Lists.{each, from, upTo, total, All}
 use Rattle.model.specs.Sheet.{Sheet, limit, constraint}
 use Rattle.model.specs.Clause.{Variable, K, S, T, least, sums, blank, fields, leftCells, rightCells}
 use Rattle.model.specs.Numbering.{VariableIn, kVariables, sVariables, tVariables, variables, kSize, sSize, rowSize, tSize, kCount, sCount, tCount, variableCount, number}
-use Rattle.model.proofs.Lists.{by-test, each-none, each-more, each-same}
-use Rattle.model.proofs.Keeping.{length-from, from-join, below-in, map-append, map-map, map-each, total-const}
+use Rattle.model.proofs.Lists.{append-out, map-out, below-out, from-at, each-none, each-more}
+use Rattle.model.proofs.Keeping.{length-from, from-is, from-join, loop-out, loop-same, map-at, map-append, map-map, map-each, total-const, total-fits}
 use Rattle.model.proofs.Integers.{above-least}
 
 -- consecutive blocks make one range
@@ -28,14 +25,10 @@ blocks h base (suc n) =
     ∙ ap (λ z. z ++ from (base + total n h) (h n)) (blocks h base n)
     ∙ sym (from-join base (total n h) (h n))
 
--- what is written of each number below n, where two ways of writing agree
-each-below : {A : Type 0} (f g : ℕ → List A) (n : ℕ) → ((i : ℕ) → f i ≡ g i) → each (upTo n) f ≡ each (upTo n) g
-each-below f g n e = each-same f g (upTo n) (below-in (λ i. f i ≡ g i) n (λ i _. e i))
-
 -- blocks of one width
 rows : (w base n : ℕ) → each (upTo n) (λ i. from (base + i * w) w) ≡ from base (n * w)
 rows w base n =
-    each-below (λ i. from (base + i * w) w) (λ i. from (base + total i (λ _. w)) w) n (λ i. ap (λ z. from (base + z) w) (sym (total-const i w)))
+    loop-same (λ i. from (base + i * w) w) (λ i. from (base + total i (λ _. w)) w) n (λ i _. ap (λ z. from (base + z) w) (sym (total-const i w)))
     ∙ blocks (λ _. w) base n ∙ ap (from base) (total-const n w)
 
 map-range : (g : ℕ → ℕ) (base n k : ℕ) → ((i : ℕ) → g (k + i) ≡ base + i) → map g (from k n) ≡ from base n
@@ -58,9 +51,9 @@ module _ (s : Sheet) where
   k-numbers =
       let w : ℕ = suc (blank s) in
       map-each (number s) (upTo (fields s)) _
-      ∙ each-below _ _ (fields s) (λ f.
+      ∙ loop-same _ _ (fields s) (λ f _.
       map-each (number s) (upTo (limit s f)) _
-      ∙ each-below _ _ (limit s f) (λ c. map-map (number s) (K f c) (upTo w) ∙ map-upTo _ (1 + total f (kSize s) + c * w) w (λ a. refl))
+      ∙ loop-same _ _ (limit s f) (λ c _. map-map (number s) (K f c) (upTo w) ∙ map-upTo _ (1 + total f (kSize s) + c * w) w (λ a. refl))
       ∙ rows w (1 + total f (kSize s)) (limit s f))
       ∙ blocks (kSize s) 1 (fields s)
 
@@ -68,12 +61,12 @@ module _ (s : Sheet) where
   unfolding sVariables number
   s-numbers =
       map-each (number s) (upTo (length (s .equations))) _
-      ∙ each-below _ _ (length (s .equations)) (λ p.
+      ∙ loop-same _ _ (length (s .equations)) (λ p _.
       let base : ℕ = 1 + kCount s + total p (sSize s) in
       let m : ℕ = suc (length (leftCells s p)) in
       let w : ℕ = suc (length (rightCells s p)) in
       map-each (number s) (upTo m) _
-      ∙ each-below _ _ m (λ i. map-map (number s) (S p i) (upTo w) ∙ map-upTo _ (base + i * w) w (λ j. refl))
+      ∙ loop-same _ _ m (λ i _. map-map (number s) (S p i) (upTo w) ∙ map-upTo _ (base + i * w) w (λ j. refl))
       ∙ rows w base m)
       ∙ blocks (sSize s) (1 + kCount s) (length (s .equations))
 
@@ -81,10 +74,10 @@ module _ (s : Sheet) where
   unfolding tVariables number sums
   t-numbers =
       map-each (number s) (upTo (length (s .constraints))) _
-      ∙ each-below _ _ (length (s .constraints)) (λ r.
+      ∙ loop-same _ _ (length (s .constraints)) (λ r _.
       let base : ℕ = 1 + kCount s + sCount s + total r (tSize s) in
       map-each (number s) (upTo (suc (fields s))) _
-      ∙ each-below _ _ (suc (fields s)) (λ k.
+      ∙ loop-same _ _ (suc (fields s)) (λ k _.
       let l : ℤ = least s (constraint s r) k in
       map-map (number s) (T r k) (map (λ n. l +ℤ pos n) (upTo (rowSize s r k)))
       ∙ map-map (λ z. number s (T r k z)) (λ n. l +ℤ pos n) (upTo (rowSize s r k))
@@ -109,15 +102,8 @@ module _ (s : Sheet) where
   positive (S p i j) = omega arith
   positive (T r k n) = omega arith
 
--- one of n parts, and one element of rows of one width
-pub part-in : (h : ℕ → ℕ) (n i : ℕ) → i < n → total i h + h i ≤ total n h
-unfolding total
-part-in h zero i l = absurd (omega arith)
-part-in h (suc n) i l = by-test (eqb i n)
-    (λ e. let q = eqb-true i n e in rw q (omega arith))
-    (λ e. let q = part-in h n i (lt-of-le-ne (omega arith) (eqb-false i n e)) in omega arith)
-
-pub row-in : (w m i j : ℕ) → i < m → j < w → i * w + j < m * w
+-- one element of rows of one width
+row-in : (w m i j : ℕ) → i < m → j < w → i * w + j < m * w
 row-in w m i j a b =
     let e = suc-mul i w in
     let k : w ≤ w = omega arith in
@@ -127,15 +113,46 @@ row-in w m i j a b =
 pub number-small : (s : Sheet) (x : Variable) → VariableIn s x → number s x ≤ variableCount s
 unfolding number variableCount
 number-small s (K f c a) h =
-    let part = part-in (kSize s) (fields s) f (h .0) in
     let inside = row-in (suc (blank s)) (limit s f) c a (h .1) (omega (arith, h .2)) in
+    let whole = total-fits (fields s) (kSize s) f (c * suc (blank s) + a) (h .0) inside in
     omega arith
 number-small s (S p i j) h =
-    let part = part-in (sSize s) (length (s .equations)) p (h .0) in
-    let inside = row-in (suc (length (rightCells s p))) (suc (length (leftCells s p))) i j (omega (arith, h .1)) (omega (arith, h .2)) in
+    let w : ℕ = suc (length (rightCells s p)) in
+    let inside = row-in w (suc (length (leftCells s p))) i j (omega (arith, h .1)) (omega (arith, h .2)) in
+    let whole = total-fits (length (s .equations)) (sSize s) p (i * w + j) (h .0) inside in
     omega arith
 number-small s (T r k n) h =
-    let part = part-in (tSize s) (length (s .constraints)) r (h .0) in
-    let row = part-in (rowSize s r) (suc (fields s)) k (omega (arith, h .1)) in
-    let inside = h .2 .1 in
+    let m : ℕ = natAbs (n -ℤ least s (constraint s r) k) in
+    let inside = total-fits (suc (fields s)) (rowSize s r) k m (omega (arith, h .1)) (omega (arith, h .2 .1)) in
+    let whole = total-fits (length (s .constraints)) (tSize s) r (total k (rowSize s r) + m) (h .0) inside in
     omega arith
+
+-- P of all variables is P of each variable in its range.
+variables-out : (s : Sheet) (P : Variable → Type 0) → All P (variables s) → (x : Variable) → VariableIn s x → P x
+unfolding variables kVariables sVariables tVariables sums
+variables-out s P h (K f c a) k =
+    let at-place = loop-out P _ _ (loop-out P _ _ (append-out P (kVariables s) _ h .0) f (k .0)) c (k .1) in
+    below-out (λ a. P (K f c a)) _ (map-out P (K f c) _ at-place) a (omega (arith, k .2))
+variables-out s P h (S p i j) k =
+    let others = append-out P (sVariables s) _ (append-out P (kVariables s) _ h .1) .0 in
+    let at-row = loop-out P _ _ (loop-out P _ _ others p (k .0)) i (omega (arith, k .1)) in
+    below-out (λ j. P (S p i j)) _ (map-out P (S p i) _ at-row) j (omega (arith, k .2))
+variables-out s P h (T r k n) i =
+    let l : ℤ = least s (constraint s r) k in
+    let others = append-out P (sVariables s) _ (append-out P (kVariables s) _ h .1) .1 in
+    let at-row = loop-out P _ _ (loop-out P _ _ others r (i .0)) k (omega (arith, i .1)) in
+    let at-sum = below-out (λ m. P (T r k (l +ℤ pos m))) _ (map-out (λ z. P (T r k z)) _ _ (map-out P (T r k) _ at-row)) (natAbs (n -ℤ l)) (omega (arith, i .2 .1)) in
+    subst (λ z. P (T r k z)) (sym (i .2 .0)) at-sum
+
+-- The variable of a number: the one in that place of the list, counted from 1.
+unfoldable pub variableOf : Sheet → ℕ → Variable
+variableOf s n = getD (variables s) (n - 1) (K 0 0 0)
+
+pub variable-of : (s : Sheet) (x : Variable) → VariableIn s x → variableOf s (number s x) ≡ x
+unfolding variableOf
+variable-of s = variables-out s (λ x. variableOf s (number s x) ≡ x) (from-at _ (K 0 0 0) (variables s) (λ i h.
+    let e = map-at (number s) (K 0 0 0) 0 (variables s) i h in
+    let n = variable-count s in
+    let m = ap (λ (xs : List ℕ). getD xs i 0) (numbering s) ∙ from-is 1 (variableCount s) i (omega arith) in
+    let q : number s (getD (variables s) i (K 0 0 0)) - 1 ≡ i = omega arith in
+    ap (λ j. getD (variables s) j (K 0 0 0)) q))

@@ -11,7 +11,7 @@ use lib.Dec.{leb}
 use lib.ListN.{length, getD, take, drop, take-append-drop, length-take}
 use borrow.Author.Tests.{leb-true, leb-false}
 use lib.Seq.{take-all}
-use Rattle.model.specs.Lists.{each, Bytes}
+use Rattle.model.specs.Lists.{each, All, Bytes}
 use Rattle.model.specs.Sheet.{Sheet, width, symbolOf, Step, got, fault, _then_, letterByte, limitByte, countByte, templateByte, coefficientByte, mostByte, row, times, sides, anEquation, aConstraint, Counts, opening, walk, accepted, ended, read, countsOf, encodeEquation, encodeConstraint, header, encode}
 use Rattle.model.specs.Range.{EquationIn, ConstraintIn, CountsIn, InRange}
 use Rattle.model.proofs.Lists.{by-test}
@@ -19,7 +19,7 @@ use Rattle.model.proofs.Steps.{got-value, same-got, went, longer, Withi
 use Rattle.model.proofs.Rows.{allPass, row-reads, row-exact, within-row}
 use Rattle.model.proofs.Faithful.{rest-bytes, Several, times-reads, times-exact}
 use Rattle.model.proofs.Opening.{opening-reads, opening-exact, within-opening}
-use Rattle.model.proofs.Sections.{letters-pass, letters-rise, letters-in-range, limits-pass, limits-in-range, two, counts-out, equation-faithful, constraint-faithful}
+use Rattle.model.proofs.Sections.{letters-pass, letters-rise, letters-in-range, limits-pass, limits-in-range, two, counts-out, equation-exact, equation-faithful, constraint-faithful}
 
 -- How many bytes each part takes at most.
 within-equation : (l : ℕ) (limits : List ℕ) → Within 26 (anEquation l limits)
@@ -131,6 +131,25 @@ walk-counts c xs h =
       times-count (c .equation-count) (anEquation (c .letter-count) (m .value)) (m .rest) (d .first),
       times-count (c .constraint-count) (aConstraint (c .field-count)) (d .rest) (f .first),
     )
+
+-- The equations that a walk got are within the ranges, whatever numbers stand in the list.
+times-all : {A : Type 0} (P : A → Type 0) (one : List ℕ → Step A) → ((xs : List ℕ) (a : A) (zs : List ℕ) → one xs ≡ got a zs → P a) → (n : ℕ) (xs : List ℕ) {more : List A} {zs : List ℕ} → times n one xs ≡ got more zs → All P more
+unfolding times All
+times-all P one f zero xs h = same-got (λ more zs. All P more) h tt
+times-all P one f (suc n) xs h =
+    let g = went (one xs) _ h in
+    let k = went (times n one (g .rest)) (λ more zs. got (g .value ∷ more) zs) (g .second) in
+    same-got (λ more zs. All P more) (k .second) (f xs (g .value) (g .rest) (g .first), times-all P one f n (g .rest) (k .first))
+
+pub walk-equations : (c : Counts) (xs : List ℕ) {s : Sheet} {zs : List ℕ} → c .letter-count ≤ 128 → walk c xs ≡ got s zs → All (EquationIn (c .letter-count) (s .limits)) (s .equations)
+unfolding walk
+walk-equations c xs few h =
+    let a = went (row letterByte 0 (c .letter-count) xs) _ h in
+    let m = went (row limitByte 0 (c .field-count) (a .rest)) _ (a .second) in
+    let d = went (times (c .equation-count) (anEquation (c .letter-count) (m .value)) (m .rest)) _ (m .second) in
+    let f = went (times (c .constraint-count) (aConstraint (c .field-count)) (d .rest)) _ (d .second) in
+    same-got (λ (s : Sheet) (zs : List ℕ). All (EquationIn (c .letter-count) (s .limits)) (s .equations)) (f .second)
+    (times-all (EquationIn (c .letter-count) (m .value)) (anEquation (c .letter-count) (m .value)) (λ ys a zs e. equation-exact (c .letter-count) (m .value) few ys e .ok) (c .equation-count) (m .rest) (d .first))
 
 -- what the walk got in each section
 record Walked (c : Counts) (xs : List ℕ) (s : Sheet) (zs : List ℕ) : Type 0 where

@@ -187,8 +187,8 @@ module _ (l : ℕ) (limits : List ℕ) (small : l ≤ 128) where
     wide = leb-true _ 24 w;
   }
 
-  equation-exact : (xs : List ℕ) {e : Equation} {zs : List ℕ} → Bytes xs → anEquation l limits xs ≡ got e zs → Exact encodeEquation (EquationIn l limits) xs e zs
-  equation-exact xs b h =
+  pub equation-exact : (xs : List ℕ) {e : Equation} {zs : List ℕ} → anEquation l limits xs ≡ got e zs → Exact encodeEquation (EquationIn l limits) xs e zs
+  equation-exact xs h =
       let p = parts xs h in
       let c = row-exact countByte 0 2 xs (p .of-counts) in
       let u = row-exact (templateByte l (length limits)) 0 (getD (p .counts) 0 0) (p .xs1) (p .of-left) in
@@ -204,7 +204,7 @@ module _ (l : ℕ) (limits : List ℕ) (small : l ≤ 128) where
       })
 
   pub equation-faithful : Faithful (anEquation l limits) encodeEquation (EquationIn l limits)
-  equation-faithful = record { reads = equation-reads l limits small; exact = equation-exact }
+  equation-faithful = record { reads = equation-reads l limits small; exact = λ xs b h. equation-exact xs h }
 
 -- a constraint
 coefficient-pass : (c : ℤ) → natAbs c ≤ 4 → passes coefficientByte 0 (unsigned 128 c) ≡ true

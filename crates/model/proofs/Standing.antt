@@ -15,7 +15,7 @@ use Rattle.model.specs.Clause.{Term, holds, lacks, isBlank, notBlank, on
 use Rattle.model.specs.Count.{SideIn, Side, used, atLetter, atField, cellSide, side, standing, locationCount}
 use Rattle.model.proofs.Lists.{by-test, and-split, at, or-false}
 use Rattle.model.proofs.Valid.{CellIn, cell-in}
-use Rattle.model.proofs.Keeping.{from-in, below-in, length-from, from-join, keep-append, keep-map, keep-when, keep-yes, keep-no, keep-all, keep-none, keep-same}
+use Rattle.model.proofs.Keeping.{from-in, below-in, length-from, from-join, keep-append, keep-map, keep-when, keep-yes, keep-no, keep-all, keep-none, keep-below, keep-one}
 
 -- A side of a location has a letter below l, if it has a letter.
 cell-side-in : (s : Sheet) (u : Cell) → CellIn s u → SideIn (blank s) (cellSide u)
@@ -101,13 +101,7 @@ keep-around : (t : ℕ → Bool) (b l : ℕ) → b < l → keep t (upTo l) ≡ k
 keep-around t b l h = ap (keep t) (around b l h) ∙ keep-append t (upTo b) (b ∷ from (suc b) (l - suc b))
 
 only-one : (a l : ℕ) → a < l → keep (eqb a) (upTo l) ≡ a ∷ []
-only-one a l h =
-    keep-around (eqb a) a l h
-    ∙ ap₂ _++_
-    (keep-none (eqb a) (upTo a) (below-in (λ x. eqb a x ≡ false) a (λ x k. ne-eqb a x (λ e. omega arith))))
-    (keep-yes (eqb a) a (from (suc a) (l - suc a)) (eq-eqb a a refl)
-    ∙ ap (λ z. a ∷ z) (keep-none (eqb a) (from (suc a) (l - suc a))
-    (from-in (λ x. eqb a x ≡ false) (suc a) (l - suc a) (λ x low high. ne-eqb a x (λ e. omega arith)))))
+only-one a l h = keep-one (eqb a) l a h (eq-eqb a a refl) (λ b _ q. sym (eqb-true a b q))
 
 all-but : (b l : ℕ) → b < l → keep (λ x. not (eqb b x)) (upTo l) ≡ upTo b ++ from (suc b) (l - suc b)
 all-but b l h =
@@ -141,17 +135,17 @@ letters-are : (l : ℕ) (u v : Cell) → SideIn l (cellSide u) → SideIn l (cel
 letters-are l (letter a) (letter b) h k = by-test (eqb a b)
     (λ e. rw e (keep-none (matches (letter a) (letter b)) (upTo l)
     (below-in (λ x. matches (letter a) (letter b) x ≡ false) l (λ x m. same-tests a b (eqb-true a b e) x))))
-    (λ e. rw e (keep-same (matches (letter a) (letter b)) (eqb a) (upTo l) (both-tests a b (eqb-false a b e)) ∙ only-one a l h))
+    (λ e. rw e (keep-below (matches (letter a) (letter b)) (eqb a) l (λ x _. both-tests a b (eqb-false a b e) x) ∙ only-one a l h))
 letters-are l (letter a) (place f c) h k =
-    keep-same (matches (letter a) (place f c)) (eqb a) (upTo l) (λ x. not-not (eqb a x)) ∙ only-one a l h
+    keep-below (matches (letter a) (place f c)) (eqb a) l (λ x _. not-not (eqb a x)) ∙ only-one a l h
 letters-are l (place f c) (letter b) h k = all-but b l k
 letters-are l (place f c) (place g d) h k = keep-all (λ x. true) (upTo l) (below-in (λ x. true ≡ true) l (λ x m. refl))
 
 -- One clause under two tests, and the end of a side.
-keep-one : {A : Type 0} (t : A → Bool) (x : A) (b : Bool) → t x ≡ b → keep t (x ∷ []) ≡ when b (x ∷ [])
+keep-under : {A : Type 0} (t : A → Bool) (x : A) (b : Bool) → t x ≡ b → keep t (x ∷ []) ≡ when b (x ∷ [])
 unfolding keep
-keep-one t x true e = rw e
-keep-one t x false e = rw e
+keep-under t x true e = rw e
+keep-under t x false e = rw e
 
 at-end : (i m : ℕ) → i ≤ m → eqb i m ≡ not (ltb i m)
 at-end i m h = by-test (ltb i m)
@@ -208,16 +202,16 @@ module _ (s : Sheet) (ok : WellFormed s) (p : ℕ) (hp : p < length (s .equation
       ∙ ap (λ z. Both p i j ∷ z)
       (keep-map t (Match p i j) (upTo (blank s))
       ∙ ap (map (Match p i j))
-      (keep-same (λ x. t (Match p i j x)) (matches u v) (upTo (blank s)) (stays-match s p i j)
+      (keep-below (λ x. t (Match p i j x)) (matches u v) (blank s) (λ x _. stays-match s p i j x)
       ∙ letters-are (blank s) u v (rw (r .0) at (in-range .0)) (rw (r .1) at (in-range .1)))) in
       keep-append t (when bi (Left p i j ∷ [])) (when bj (Right p i j ∷ []) ++ (when (bi && bj) d ++ f))
-      ∙ ap₂ _++_ (keep-when t bi (Left p i j ∷ []) ∙ ap (when bi) (keep-one t (Left p i j) (not (isLetter u)) (stays-left s p i j)))
+      ∙ ap₂ _++_ (keep-when t bi (Left p i j ∷ []) ∙ ap (when bi) (keep-under t (Left p i j) (not (isLetter u)) (stays-left s p i j)))
       (keep-append t (when bj (Right p i j ∷ [])) (when (bi && bj) d ++ f)
-      ∙ ap₂ _++_ (keep-when t bj (Right p i j ∷ []) ∙ ap (when bj) (keep-one t (Right p i j) (not (isLetter v)) (stays-right s p i j)))
+      ∙ ap₂ _++_ (keep-when t bj (Right p i j ∷ []) ∙ ap (when bj) (keep-under t (Right p i j) (not (isLetter v)) (stays-right s p i j)))
       (keep-append t (when (bi && bj) d) f
       ∙ ap₂ _++_ (keep-when t (bi && bj) d ∙ when-under (bi && bj) matched)
       (keep-when t ends (End p i j ∷ [])
-      ∙ ap₂ when (ap₂ (λ x y. x && bj || bi && y) (at-end i m hi) (at-end j n hj)) (keep-one t (End p i j) true (stays-end s p i j)))))
+      ∙ ap₂ when (ap₂ (λ x y. x && bj || bi && y) (at-end i m hi) (at-end j n hj)) (keep-under t (End p i j) true (stays-end s p i j)))))
       ∙ table (blank s) p i j bi bj u v
 
 -- How many they are.

@@ -16,7 +16,7 @@ use Rattle.model.specs.Range.{WellFormed}
 use Rattle.model.specs.Clause.{K, Literal, is, isnt, unknown, ClauseId, SomeValue, NotBoth, BlankTail, Start, Zero, Add, Bound, terms, sure, leftOut, least, spread, sums, placeIds, locationIds, equationIds, constraintIds, listed, stays, ids, blank, fields, leftCells, rightCells, notBothIds, addIds}
 use Rattle.model.specs.Count.{side, standing, notBothCount, placeCount, fieldCount, locationSize, rowCount, equationCount, stepCount, atMost, within, constraintCount, kClauses, sClauses, clauseCount}
 use Rattle.model.proofs.Lists.{by-test, append-in}
-use Rattle.model.proofs.Keeping.{one-in, map-from-in, loop-in, map-map, each-map, each-when, length-map-from, keep-append, keep-map, keep-yes, keep-same, keep-all, keep-above, keep-loop, loop-same, total-const, total-same, length-loop}
+use Rattle.model.proofs.Keeping.{one-in, map-from-in, loop-in, map-map, each-map, each-when, length-map-from, keep-append, keep-map, keep-yes, keep-below, keep-all, keep-above, keep-loop, loop-same, total-const, total-same, length-loop}
 use Rattle.model.proofs.Named.{place-in}
 use Rattle.model.proofs.Standing.{sides-in, sure-only, standing-is, standing-count}
 
@@ -89,7 +89,7 @@ module _ (s : Sheet) (c : Constraint) where
       let w : ℕ = suc (spread s c (fields s)) in
       keep-map (ltZ (c .most)) (λ n. l +ℤ pos n) (upTo w)
       ∙ ap (map (λ n. l +ℤ pos n))
-      (keep-same (λ n. ltZ (c .most) (l +ℤ pos n)) (λ n. ltZ z (pos n)) (upTo w) (above (c .most) l)
+      (keep-below (λ n. ltZ (c .most) (l +ℤ pos n)) (λ n. ltZ z (pos n)) w (λ n _. above (c .most) l n)
       ∙ keep-above (λ n. ltZ z (pos n)) (atMost z w) w (at-most z w) (at-most-low z w) (at-most-high z w))
 
 -- The clauses of places and constraints: none of them is left out.

@@ -1,4 +1,4 @@
--- Every variable of a clause of a sheet in range is one that the sheet has. Assumes nothing.
+-- Every variable of a clause whose name is in range is one that the sheet has. Assumes nothing.
 use mathlib.Core.Path.{_≡_, refl}
 use mathlib.Core.Bool.{Bool, true, false}
 use mathlib.Core.List.{List}
@@ -9,7 +9,7 @@ use lib.ListN.{length}
 use borrow.Author.Tests.{ltb-true}
 use Rattle.model.specs.Lists.{upTo, All}
 use Rattle.model.specs.Sheet as sheet
-use Rattle.model.specs.Sheet.{Symbol, Sheet, limit, equation, constraint, template}
+use Rattle.model.specs.Sheet.{Symbol, Sheet, limit, constraint, template}
 use Rattle.model.specs.Range.{SymbolIn, WellFormed}
 use Rattle.model.specs.Cells.{Cell, letter, place, symbolCells, cells}
 use Rattle.model.specs.Clause.{K, Literal, is, isnt, Term, known, unknown, yes, no, holds, lacks, isBlank, notBlank, only, ClauseId, SomeValue, NotBoth, BlankTail, Start, Left, Right, Both, Match, End, Zero, Add, Bound, terms, literalOf, literals, blank, fields, cell, leftCells, rightCells}

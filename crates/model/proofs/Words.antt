@@ -37,7 +37,7 @@ unfolding sameWord
 same-word s u w = refl
 
 -- `solves` decides `Solves` of a legal substitution.
-of-test : (b : Bool) → b ≡ true → T b
+pub of-test : (b : Bool) → b ≡ true → T b
 of-test true e = tt
 of-test false e = never e
 
@@ -54,9 +54,9 @@ unfolding constraintHolds
 constraint-in s g r h = to-test (leZ (weight r g (length (s .limits))) (r .most)) (h .le)
 
 -- what fields ask beyond letters and limits
-keeps-out : (s : Sheet) (g : Substitution) → keeps s g ≡ true → Keeps s g
+pub keeps-every : (s : Sheet) (g : Substitution) → Keeps s g
 unfolding Keeps
-keeps-out s g e = tt
+keeps-every s g = tt
 
 keeps-in : (s : Sheet) (g : Substitution) → Keeps s g → keeps s g ≡ true
 unfolding keeps
@@ -71,7 +71,7 @@ solves-out s g ok e =
       is-legal = ok;
       equations-hold = weaken _ (EquationHolds s g) (s .equations) (λ x. same-word-out s (spell g (x .left)) (spell g (x .right))) (all-out (equationHolds s g) (s .equations) (r .0));
       constraints-hold = weaken _ (ConstraintHolds s g) (s .constraints) (constraint-out s g) (all-out (constraintHolds s g) (s .constraints) (q .0));
-      keeps-all = keeps-out s g (q .1);
+      keeps-all = keeps-every s g;
     }
 
 pub solves-in : (s : Sheet) (g : Substitution) → Solves s g → solves s g ≡ true

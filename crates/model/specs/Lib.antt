@@ -7,6 +7,7 @@ pub mod Filling
 pub mod Clause
 pub mod Numbering
 pub mod Dimacs
+pub mod Assignment
 pub mod Count
 pub mod Report
 pub mod Calls

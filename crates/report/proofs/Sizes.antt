@@ -10,7 +10,8 @@ use Rattle.model.specs.Word.{text, letterBytes, spell}
 use Rattle.model.specs.Filling.{filling}
 use Rattle.model.specs.Report.{line, fieldName, fieldLine, pairName, pairLine}
 use Rattle.model.specs.Calls.{finished, checking}
-use Rattle.model.proofs.Lists.{each-none, each-more, each-short}
+use Rattle.model.proofs.Lists.{each-none, each-more}
+use Rattle.model.proofs.Keeping.{each-short}
 use Rattle.model.proofs.Seams.{Written, nothing, more}
 use Rattle.model.proofs.Templates.{template-room}
 use Rattle.model.proofs.Passed.{answered, filling-read}

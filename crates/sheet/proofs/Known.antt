@@ -14,7 +14,7 @@ use Rattle.sheet.specs.declared.Reading.{Reading}
 use Rattle.sheet.specs.declared.Reading.the-variants.{Accepted, Refused}
 
 pub lent-bytes : (b : List ℕ) → ((k : ℕ) → Fits w8 (getD b k 0)) → Bytes b
-lent-bytes b h = from-at (λ x. x < 256) 0 b (λ k. h k .fits)
+lent-bytes b h = from-at (λ x. x < 256) 0 b (λ k l. h k .fits)
 
 pub admitted-by : (b : List ℕ) (r : Reading) → Bytes b → answer r ≡ reading b → admitted b r
 admitted-by b (Accepted c) y e = let h = reading-accepted b (sym e) in (h, accepted-in-range b y h)

@@ -1,0 +1,88 @@
+//! A small sheet with the question whether it clashes, asked twice: in the library's clause file,
+//! for a solver, and of all fillings, for brute force. The library has no say in the second.
+
+use crate::engine;
+use crate::fillings;
+use crate::reader::{self, Pair, Sheet};
+use crate::report::{require, Hex};
+use crate::speller::{self, Filling, Verdict};
+
+/// Enough for every line.
+const ROOMY: usize = 80;
+
+pub struct Question {
+    pub bytes: Vec<u8>,
+    pub sheet: Sheet,
+    /// The library's clause file.
+    pub clauses: Vec<u8>,
+    /// Some filling clashes.
+    pub clash: bool,
+    /// One of `REASONS`.
+    pub reason: &'static str,
+}
+
+/// How an answer comes about.
+pub const REASONS: [&str; 5] = [
+    "clash, the rules exclude nothing",
+    "clash, the rules exclude some fillings",
+    "apart, for one pair alone",
+    "apart, for the pairs together",
+    "apart, for the rules",
+];
+
+impl Question {
+    pub fn new(bytes: &[u8]) -> Question {
+        let sheet = reader::accepted(bytes);
+        let fillings = fillings::all(&sheet);
+        let judge = |filling| speller::judge(&sheet, filling);
+        let verdicts: Vec<Verdict> = fillings.iter().map(judge).collect();
+        let clash = verdicts.contains(&Verdict::Clash);
+        let breaks = |verdict: &Verdict| matches!(verdict, Verdict::RuleBreaks(_));
+        let agrees = |pair: &Pair| fillings.iter().any(|filling| agrees(pair, filling));
+        let reason = match (clash, verdicts.iter().any(breaks)) {
+            (true, false) => "clash, the rules exclude nothing",
+            (true, true) => "clash, the rules exclude some fillings",
+            (false, true) => "apart, for the rules",
+            (false, false) if sheet.pairs.iter().all(agrees) => "apart, for the pairs together",
+            (false, false) => "apart, for one pair alone",
+        };
+        Question {
+            bytes: bytes.to_vec(),
+            clauses: clauses(bytes),
+            clash,
+            reason,
+            sheet,
+        }
+    }
+}
+
+fn agrees(pair: &Pair, filling: &Filling) -> bool {
+    speller::text(&pair.left, filling) == speller::text(&pair.right, filling)
+}
+
+/// All lines that the library writes for a sheet.
+fn clauses(sheet: &[u8]) -> Vec<u8> {
+    let counted = engine::count(sheet);
+    require(
+        counted.status == 0 && counted.rest_unchanged,
+        "the library does not count the clauses",
+        &[("sheet", &Hex(sheet)), ("counted", &counted)],
+    );
+    let count = counted.lent[1];
+    (0..=count).flat_map(|number| line(sheet, number)).collect()
+}
+
+fn line(sheet: &[u8], number: u64) -> Vec<u8> {
+    let mut written = engine::line(sheet, number, ROOMY);
+    require(
+        written.status > 0 && written.rest_unchanged,
+        "the library does not write a line",
+        &[
+            ("sheet", &Hex(sheet)),
+            ("line", &number),
+            ("written", &written),
+        ],
+    );
+    written.lent.truncate(written.status as usize);
+    written.lent
+}
