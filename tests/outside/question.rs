@@ -6,9 +6,7 @@ use crate::fillings;
 use crate::reader::{self, Pair, Sheet};
 use crate::report::{require, Hex};
 use crate::speller::{self, Filling, Verdict};
-
-/// Enough for every line.
-const ROOMY: usize = 80;
+use crate::writing::ROOMY;
 
 pub struct Question {
     pub bytes: Vec<u8>,

@@ -5,39 +5,39 @@ use crate::reader::*;
 use crate::writer::{self, Cell};
 
 /// A name, and whether it fits a sheet.
-pub struct Shape(pub &'static str, fn(&Sheet) -> bool);
+pub struct Shape(&'static str, fn(&Sheet) -> bool);
 
-const NO_FIELDS: Shape = Shape("no fields", |sheet| sheet.limits.is_empty());
-const NO_FIELDS_BUT_RULES: Shape = Shape("no fields, but rules", |sheet| {
-    sheet.limits.is_empty() && !sheet.rules.is_empty()
-});
-const LIMIT_0: Shape = Shape("a field of limit 0", |sheet| sheet.limits.contains(&0));
-const ALL_OF_LIMIT_0: Shape = Shape("fields, all of limit 0", |sheet| {
-    !sheet.limits.is_empty() && sheet.limits.iter().all(|&limit| limit == 0)
-});
-const UNUSED_FIELD: Shape = Shape("a field that no template has", |sheet| {
-    (0..sheet.limits.len()).any(|field| is_unused(sheet, field))
-});
-const EMPTY_TEMPLATE: Shape = Shape("an empty template", |sheet| {
-    any_pair(sheet, |pair| pair.left.is_empty() || pair.right.is_empty())
-});
-const EMPTY_PAIR: Shape = Shape("two empty templates in a pair", |sheet| {
-    any_pair(sheet, |pair| pair.left.is_empty() && pair.right.is_empty())
-});
-const SHARED_PLACE: Shape = Shape("one place on both sides", |sheet| {
-    any_shared_cell(sheet, |cell| matches!(cell, Cell::Place(..)))
-});
+/// Shapes in two parts.
+pub type Shapes = [&'static [Shape]; 2];
 
-/// What is special about a sheet of any size.
-pub const ALL: [Shape; 19] = [
-    NO_FIELDS,
-    NO_FIELDS_BUT_RULES,
-    LIMIT_0,
-    ALL_OF_LIMIT_0,
-    UNUSED_FIELD,
-    EMPTY_TEMPLATE,
-    EMPTY_PAIR,
-    SHARED_PLACE,
+/// What may be special about a sheet of any size, and about a small one.
+pub const ALL: Shapes = [&COMMON, &OF_ANY_SIZE];
+pub const OF_SMALL: Shapes = [&COMMON, &SMALL];
+
+const COMMON: [Shape; 8] = [
+    Shape("no fields", |sheet| sheet.limits.is_empty()),
+    Shape("no fields, but rules", |sheet| {
+        sheet.limits.is_empty() && !sheet.rules.is_empty()
+    }),
+    Shape("a field of limit 0", |sheet| sheet.limits.contains(&0)),
+    Shape("fields, all of limit 0", |sheet| {
+        !sheet.limits.is_empty() && sheet.limits.iter().all(|&limit| limit == 0)
+    }),
+    Shape("a field that no template has", |sheet| {
+        (0..sheet.limits.len()).any(|field| is_unused(sheet, field))
+    }),
+    Shape("an empty template", |sheet| {
+        any_pair(sheet, |pair| pair.left.is_empty() || pair.right.is_empty())
+    }),
+    Shape("two empty templates in a pair", |sheet| {
+        any_pair(sheet, |pair| pair.left.is_empty() && pair.right.is_empty())
+    }),
+    Shape("one place on both sides", |sheet| {
+        any_shared_cell(sheet, |cell| matches!(cell, Cell::Place(..)))
+    }),
+];
+
+const OF_ANY_SIZE: [Shape; 11] = [
     Shape("one letter on both sides", |sheet| {
         any_shared_cell(sheet, |cell| matches!(cell, Cell::Letter(_)))
     }),
@@ -76,16 +76,7 @@ pub const ALL: [Shape; 19] = [
     }),
 ];
 
-/// What is special about a small sheet.
-pub const OF_SMALL: [Shape; 16] = [
-    NO_FIELDS,
-    NO_FIELDS_BUT_RULES,
-    LIMIT_0,
-    ALL_OF_LIMIT_0,
-    UNUSED_FIELD,
-    EMPTY_TEMPLATE,
-    EMPTY_PAIR,
-    SHARED_PLACE,
+const SMALL: [Shape; 8] = [
     Shape("a field of limit 3 or more", |sheet| {
         sheet.limits.iter().any(|&limit| limit >= 3)
     }),
@@ -107,9 +98,23 @@ pub const OF_SMALL: [Shape; 16] = [
     }),
 ];
 
+/// All names.
+pub fn names(shapes: &Shapes) -> Vec<&'static str> {
+    shapes
+        .iter()
+        .copied()
+        .flatten()
+        .map(|shape| shape.0)
+        .collect()
+}
+
 /// The names that fit a sheet.
-pub fn of(sheet: &Sheet, shapes: &[Shape]) -> Vec<&'static str> {
-    let fitting = shapes.iter().filter(|shape| shape.1(sheet));
+pub fn of(sheet: &Sheet, shapes: &Shapes) -> Vec<&'static str> {
+    let fitting = shapes
+        .iter()
+        .copied()
+        .flatten()
+        .filter(|shape| shape.1(sheet));
     fitting.map(|shape| shape.0).collect()
 }
 

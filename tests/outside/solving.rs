@@ -195,7 +195,7 @@ struct Met {
 
 impl Met {
     fn new() -> Met {
-        let shapes = shapes::OF_SMALL.map(|shape| shape.0);
+        let shapes = shapes::names(&shapes::OF_SMALL);
         Met {
             clash: 0,
             apart: 0,

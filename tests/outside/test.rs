@@ -37,11 +37,7 @@ impl Test {
             spell: Tally::new("tpl_spell", &spell_answers, (1..=15).chain(20..=26)),
             count: Tally::new("tpl_count", &["counted"], 1..=15),
             line: Tally::new("tpl_line", &KINDS, (1..=15).chain(28..=29)),
-            shapes: Tally::new(
-                "counted sheets with",
-                &shapes::ALL.map(|shape| shape.0),
-                0..0,
-            ),
+            shapes: Tally::new("counted sheets with", &shapes::names(&shapes::ALL), 0..0),
         }
     }
 

@@ -20,7 +20,7 @@ const NEW_LIMIT_PERCENT: usize = 80;
 const ALSO_SHORT_PERCENT: usize = 10;
 
 /// A buffer of 80 is to be long enough for every line.
-const ROOMY: usize = 80;
+pub const ROOMY: usize = 80;
 
 pub fn run(test: &mut Test) {
     test.part("document 01's clause file of P", known_file);
@@ -111,29 +111,37 @@ fn small_changes(test: &mut Test) {
     }
 }
 
-fn small(test: &mut Test) {
-    for _ in 0..SMALL {
-        let sheet = sheets::small(&mut test.random);
+/// What becomes of `times` sheets that `make` makes.
+fn each_varied(
+    test: &mut Test,
+    times: usize,
+    make: fn(&mut Random) -> Sheet,
+    compare: impl Fn(&mut Test, &Written),
+) {
+    for _ in 0..times {
+        let sheet = make(&mut test.random);
         let written = varied(&mut test.random, sheet);
-        every_line(test, &written, 100);
+        compare(test, &written);
     }
 }
 
+fn small(test: &mut Test) {
+    each_varied(test, SMALL, sheets::small, |test, written| {
+        every_line(test, written, 100)
+    });
+}
+
 fn of_all_sizes(test: &mut Test) {
-    for _ in 0..OF_ALL_SIZES {
-        let sheet = large(&mut test.random);
-        let written = varied(&mut test.random, sheet);
-        every_line(test, &written, ALSO_SHORT_PERCENT);
-    }
+    each_varied(test, OF_ALL_SIZES, large, |test, written| {
+        every_line(test, written, ALSO_SHORT_PERCENT)
+    });
 }
 
 /// Sheets with every count at its greatest, and one with the most clauses.
 fn largest(test: &mut Test) {
-    for _ in 0..LARGEST {
-        let sheet = sheets::largest(&mut test.random);
-        let written = varied(&mut test.random, sheet);
-        every_line(test, &written, ALSO_SHORT_PERCENT);
-    }
+    each_varied(test, LARGEST, sheets::largest, |test, written| {
+        every_line(test, written, ALSO_SHORT_PERCENT)
+    });
     let written = writer::write(&sheets::encode(&fullest()));
     every_line(test, &written, ALSO_SHORT_PERCENT);
 }
@@ -160,11 +168,9 @@ fn fullest() -> Sheet {
 }
 
 fn looked_into(test: &mut Test) {
-    for _ in 0..LOOKED_INTO {
-        let sheet = large(&mut test.random);
-        let written = varied(&mut test.random, sheet);
-        some_lines(test, &written, LINES_LOOKED_INTO);
-    }
+    each_varied(test, LOOKED_INTO, large, |test, written| {
+        some_lines(test, written, LINES_LOOKED_INTO)
+    });
 }
 
 /// Damaged sheets; those that are still accepted are passed over.

@@ -221,18 +221,27 @@ keep-above t k w h low high =
     ∙ ap₂ _++_ (keep-none t (upTo k) (below-in (λ n. t n ≡ false) k low)) (ap (λ n. keep t (from n (w - k))) z)
     ∙ keep-all t (from k (w - k)) (from-in (λ n. t n ≡ true) k (w - k) (λ n l m. high n l (omega arith)))
 
+-- the numbers below l: those before b, b, and those after it
+around : (b l : ℕ) → b < l → upTo l ≡ upTo b ++ (b ∷ from (suc b) (l - suc b))
+unfolding from
+around b l h =
+    let e : l ≡ b + suc (l - suc b) = omega arith in
+    let z : 0 + b ≡ b = omega arith in
+    ap upTo e ∙ from-join 0 b (suc (l - suc b)) ∙ ap (λ c. upTo b ++ from c (suc (l - suc b))) z
+
+pub keep-around : (t : ℕ → Bool) (b l : ℕ) → b < l → keep t (upTo l) ≡ keep t (upTo b) ++ keep t (b ∷ from (suc b) (l - suc b))
+keep-around t b l h = ap (keep t) (around b l h) ∙ keep-append t (upTo b) (b ∷ from (suc b) (l - suc b))
+
 -- a test that one number below n passes, and no other
 pub keep-one : (t : ℕ → Bool) (n a : ℕ) → a < n → t a ≡ true → ((b : ℕ) → b < n → t b ≡ true → b ≡ a) → keep t (upTo n) ≡ a ∷ []
-unfolding from
 keep-one t n a h e one =
-    let k : ℕ = n - suc a in
-    let m : n ≡ a + suc k = omega arith in
-    let z : 0 + a ≡ a = omega arith in
+    let others : List ℕ = from (suc a) (n - suc a) in
     let fails : (b : ℕ) → b < n → (b ≡ a → ⊥) → t b ≡ false = λ b l d. by-test (t b) (λ p. absurd (d (one b l p))) (λ p. p) in
-    ap (λ j. keep t (upTo j)) m ∙ ap (keep t) (from-join 0 a (suc k)) ∙ keep-append t (upTo a) (from (0 + a) (suc k))
-    ∙ ap₂ _++_ (keep-none t (upTo a) (below-in (λ b. t b ≡ false) a (λ b l. fails b (omega arith) (λ d. omega arith)))) (ap (λ j. keep t (from j (suc k))) z)
-    ∙ keep-yes t a (from (suc a) k) e
-    ∙ ap (λ xs. a ∷ xs) (keep-none t (from (suc a) k) (from-in (λ b. t b ≡ false) (suc a) k (λ b l u. fails b (omega arith) (λ d. omega arith))))
+    keep-around t a n h
+    ∙ ap₂ _++_
+    (keep-none t (upTo a) (below-in (λ b. t b ≡ false) a (λ b l. fails b (omega arith) (λ d. omega arith))))
+    (keep-yes t a others e
+    ∙ ap (λ xs. a ∷ xs) (keep-none t others (from-in (λ b. t b ≡ false) (suc a) (n - suc a) (λ b l u. fails b (omega arith) (λ d. omega arith)))))
 
 -- whether some number of a range passes a test
 module _ {A : Type 0} (p : A → Bool) (h : ℕ → A) where

@@ -10,7 +10,7 @@ use lib.Arith.{lt-of-le-ne}
 use lib.Dec.{ltb, eqb}
 use lib.ListN.{length, getD, drop, drop-of-length-le}
 use lib.Seq.{drop-cons}
-use borrow.Author.Tests.{ltb-true, ltb-false, eqb-true, eqb-false, eq-eqb, ne-eqb}
+use borrow.Author.Tests.{ltb-true, ltb-false, lt-ltb, le-ltb, eqb-true, eqb-false, eq-eqb, ne-eqb}
 use Rattle.model.specs.Lists.{same}
 use Rattle.model.specs.Cells.{unblank}
 use Rattle.model.proofs.Lists.{never, by-test, or-left, or-right, or-else, or-other, or-last, imply, implied, and-split, and-join, same-equal, equal-same}
@@ -39,15 +39,41 @@ module _ (l : ℕ) (xs : List ℕ) (i : ℕ) where
 pub restsSame : ℕ → List ℕ → List ℕ → ℕ → ℕ → Bool
 restsSame l xs ys i j = same (rest l xs i) (rest l ys j)
 
--- The first clause and clauses B to F, with what a cell is in place of its K variables, and St i j for S(p,i,j).
+-- Clauses B to F of a location, with what a cell is in place of its K variables, and St i j for S(p,i,j).
+module _ (l : ℕ) (xs ys : List ℕ) (St : ℕ → ℕ → Bool) (i j : ℕ) where
+  abbrev pub clauseB : Bool
+  clauseB = not (St i j) || (not (eqb (getD xs i 0) l) || (St (suc i) j || false))
+
+  abbrev pub clauseC : Bool
+  clauseC =
+      not (St i j) || ((ltb i (length xs) && eqb (getD xs i 0) l) || (not (eqb (getD ys j 0) l) || (St i (suc j) || false)))
+
+  abbrev pub clauseD : Bool
+  clauseD = not (St i j) || (eqb (getD xs i 0) l || (eqb (getD ys j 0) l || (St (suc i) (suc j) || false)))
+
+  abbrev pub clauseE : ℕ → Bool
+  clauseE a = not (St i j) || (eqb (getD ys j 0) l || (not (eqb (getD xs i 0) a) || (eqb (getD ys j 0) a || false)))
+
+  abbrev pub clauseF : Bool
+  clauseF = not (St i j) || ((ltb j (length ys) && eqb (getD ys j 0) l) || ((ltb i (length xs) && eqb (getD xs i 0) l) || false))
+
+-- All of them, where they are, and the first clause.
 pub record Locations (l : ℕ) (xs ys : List ℕ) (St : ℕ → ℕ → Bool) : Type 0 where
   pub first : St 0 0 ≡ true
-  pub b : (i j : ℕ) → i < length xs → j ≤ length ys → (not (St i j) || (not (eqb (getD xs i 0) l) || (St (suc i) j || false))) ≡ true
-  pub c : (i j : ℕ) → i ≤ length xs → j < length ys → (not (St i j) || ((ltb i (length xs) && eqb (getD xs i 0) l) || (not (eqb (getD ys j 0) l) || (St i (suc j) || false)))) ≡ true
-  pub d : (i j : ℕ) → i < length xs → j < length ys → (not (St i j) || (eqb (getD xs i 0) l || (eqb (getD ys j 0) l || (St (suc i) (suc j) || false)))) ≡ true
-  pub e : (i j a : ℕ) → i < length xs → j < length ys → a < l → (not (St i j) || (eqb (getD ys j 0) l || (not (eqb (getD xs i 0) a) || (eqb (getD ys j 0) a || false)))) ≡ true
-  pub f-left : (j : ℕ) → j < length ys → (not (St (length xs) j) || (eqb (getD ys j 0) l || false)) ≡ true
-  pub f-right : (i : ℕ) → i < length xs → (not (St i (length ys)) || (eqb (getD xs i 0) l || false)) ≡ true
+  pub b : (i j : ℕ) → i < length xs → j ≤ length ys → clauseB l xs ys St i j ≡ true
+  pub c : (i j : ℕ) → i ≤ length xs → j < length ys → clauseC l xs ys St i j ≡ true
+  pub d : (i j : ℕ) → i < length xs → j < length ys → clauseD l xs ys St i j ≡ true
+  pub e : (i j a : ℕ) → i < length xs → j < length ys → a < l → clauseE l xs ys St i j a ≡ true
+  pub f-left : (j : ℕ) → j < length ys → clauseF l xs ys St (length xs) j ≡ true
+  pub f-right : (i : ℕ) → i < length xs → clauseF l xs ys St i (length ys) ≡ true
+
+-- F says that a cell is blank where the other side is used up
+module _ (l : ℕ) (xs ys : List ℕ) (St : ℕ → ℕ → Bool) where
+  f-left-is : (j : ℕ) → j < length ys → clauseF l xs ys St (length xs) j ≡ (not (St (length xs) j) || (eqb (getD ys j 0) l || false))
+  f-left-is j b = rw (lt-ltb j (length ys) b, le-ltb (length xs) (length xs) (omega arith))
+
+  f-right-is : (i : ℕ) → i < length xs → clauseF l xs ys St i (length ys) ≡ (not (St i (length ys)) || (eqb (getD xs i 0) l || false))
+  f-right-is i a = rw (lt-ltb i (length xs) a, le-ltb (length ys) (length ys) (omega arith))
 
 -- A true S is a location from which both sides spell the same: by the number of cells left, B, C and D move on, E and F exclude.
 module _ (l : ℕ) (xs ys : List ℕ) (St : ℕ → ℕ → Bool) (w : Locations l xs ys St) (small : (i : ℕ) → i < length xs → getD xs i 0 ≤ l) where
@@ -86,11 +112,11 @@ module _ (l : ℕ) (xs ys : List ℕ) (St : ℕ → ℕ → Bool) (w : Locations
       (λ nc. let r = to-both i j a b nb nc t in letters-join i j a b nb nc (r .1) (true-same k (suc i) (suc j) (omega arith) (omega arith) (omega arith) (r .0))))
       -- the right side is used up: F
       (λ tj. let b : j ≡ length ys = let z = ltb-false j (length ys) tj in omega arith in
-      never (sym nb ∙ or-last (implied (w .f-right i a) (subst (λ z. St i z ≡ true) b t))))))
+      never (sym nb ∙ or-last (implied (sym (f-right-is l xs ys St i a) ∙ w .f-right i a) (subst (λ z. St i z ≡ true) b t))))))
       (λ ti. let a : i ≡ length xs = let z = ltb-false i (length xs) ti in omega arith in by-test (ltb j (length ys))
       -- the left side is used up: F, then C
       (λ tj. let b = ltb-true j (length ys) tj in
-      let bl = or-last (implied (w .f-left j b) (subst (λ z. St z j ≡ true) a t)) in
+      let bl = or-last (implied (sym (f-left-is l xs ys St j b) ∙ w .f-left j b) (subst (λ z. St z j ≡ true) a t)) in
       rw (rest-blank l ys j b bl) (true-same k i (suc j) (omega arith) hi (omega arith) (to-right i j hi b (rw ti) bl t)))
       -- both are
       (λ tj. let b = ltb-false j (length ys) tj in rw (rest-end l xs i (omega arith), rest-end l ys j b)))
@@ -134,6 +160,6 @@ module _ (l : ℕ) (xs ys : List ℕ) where
     c = λ i j h b. imply (restsSame l xs ys i j) (λ t. or-right (ltb i (length xs) && eqb (getD xs i 0) l) (imply (eqb (getD ys j 0) l) (λ bl. or-left _ (rw (rest-blank l ys j b bl) at t))));
     d = λ i j a b. imply (restsSame l xs ys i j) (λ t. or-else (eqb (getD xs i 0) l) (λ nb. or-else (eqb (getD ys j 0) l) (λ nc. or-left _ (heads-same i j a b nb nc t .1))));
     e = λ i j x a b lt. imply (restsSame l xs ys i j) (λ t. or-else (eqb (getD ys j 0) l) (λ nc. imply (eqb (getD xs i 0) x) (λ q. or-left _ (letter-same i j x a b lt nc q t))));
-    f-left = λ j b. imply (restsSame l xs ys (length xs) j) (λ t. or-left _ (left-over j b t));
-    f-right = λ i a. imply (restsSame l xs ys i (length ys)) (λ t. or-left _ (right-over i a t));
+    f-left = λ j b. f-left-is l xs ys (restsSame l xs ys) j b ∙ imply (restsSame l xs ys (length xs) j) (λ t. or-left _ (left-over j b t));
+    f-right = λ i a. f-right-is l xs ys (restsSame l xs ys) i a ∙ imply (restsSame l xs ys i (length ys)) (λ t. or-left _ (right-over i a t));
   }

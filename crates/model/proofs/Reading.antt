@@ -15,7 +15,7 @@ use Rattle.model.specs.Lists.{each, All, Bytes}
 use Rattle.model.specs.Sheet.{Sheet, width, symbolOf, Step, got, fault, _then_, letterByte, limitByte, countByte, templateByte, coefficientByte, mostByte, row, times, sides, anEquation, aConstraint, Counts, opening, walk, accepted, ended, read, countsOf, encodeEquation, encodeConstraint, header, encode}
 use Rattle.model.specs.Range.{EquationIn, ConstraintIn, CountsIn, InRange}
 use Rattle.model.proofs.Lists.{by-test}
-use Rattle.model.proofs.Steps.{got-value, same-got, went, longer, Within, within-got, within-more, within-must, within-then, within-times}
+use Rattle.model.proofs.Steps.{same-got, went, longer, Within, within-got, within-more, within-must, within-then, within-times}
 use Rattle.model.proofs.Rows.{allPass, row-reads, row-exact, within-row}
 use Rattle.model.proofs.Faithful.{rest-bytes, Several, times-reads, times-exact}
 use Rattle.model.proofs.Opening.{opening-reads, opening-exact, within-opening}
@@ -108,50 +108,64 @@ ended-accepted (got a []) h = cc
 ended-accepted (got a (z ∷ zs)) h = absurd (let z : _≡_ {A = ℕ} 0 1 = cc in omega arith)
 ended-accepted (fault n) h = absurd (let z : _≡_ {A = ℕ} 0 1 = cc in omega arith)
 
--- A walk that got a sheet has the counts that it was sent with.
-times-count : {A : Type 0} (n : ℕ) (one : List ℕ → Step A) (xs : List ℕ) {more : List A} {zs : List ℕ} → times n one xs ≡ got more zs → length more ≡ n
-unfolding times
-times-count zero one xs h = ap length (sym (got-value h))
-times-count (suc n) one xs h =
-    let g = went (one xs) _ h in
-    let k = went (times n one (g .rest)) (λ more zs. got (g .value ∷ more) zs) (g .second) in
-    ap length (sym (got-value (k .second))) ∙ ap suc (times-count n one (g .rest) (k .first))
+-- What a walk got in each section.
+record Stages (c : Counts) (xs : List ℕ) (s : Sheet) (zs : List ℕ) : Type 0 where
+  xs1 : List ℕ
+  xs2 : List ℕ
+  xs3 : List ℕ
+  of-letters : row letterByte 0 (c .letter-count) xs ≡ got (s .letters) xs1
+  of-limits : row limitByte 0 (c .field-count) xs1 ≡ got (s .limits) xs2
+  of-equations : times (c .equation-count) (anEquation (c .letter-count) (s .limits)) xs2 ≡ got (s .equations) xs3
+  of-constraints : times (c .constraint-count) (aConstraint (c .field-count)) xs3 ≡ got (s .constraints) zs
 
-pub walk-counts : (c : Counts) (xs : List ℕ) {s : Sheet} {zs : List ℕ} → walk c xs ≡ got s zs → countsOf s ≡ c
+stages : (c : Counts) (xs : List ℕ) {s : Sheet} {zs : List ℕ} → walk c xs ≡ got s zs → Stages c xs s zs
 unfolding walk
-walk-counts c xs h =
+stages c xs h =
     let a = went (row letterByte 0 (c .letter-count) xs) _ h in
     let m = went (row limitByte 0 (c .field-count) (a .rest)) _ (a .second) in
     let d = went (times (c .equation-count) (anEquation (c .letter-count) (m .value)) (m .rest)) _ (m .second) in
     let f = went (times (c .constraint-count) (aConstraint (c .field-count)) (d .rest)) _ (d .second) in
-    ap countsOf (sym (got-value (f .second)))
-    ∙ rw (
-      row-exact letterByte 0 (c .letter-count) xs (a .first) .count,
-      row-exact limitByte 0 (c .field-count) (a .rest) (m .first) .count,
-      times-count (c .equation-count) (anEquation (c .letter-count) (m .value)) (m .rest) (d .first),
-      times-count (c .constraint-count) (aConstraint (c .field-count)) (d .rest) (f .first),
+    same-got (Stages c xs) (f .second)
+    (record {
+      xs1 = a .rest;
+      xs2 = m .rest;
+      xs3 = d .rest;
+      of-letters = a .first;
+      of-limits = m .first;
+      of-equations = d .first;
+      of-constraints = f .first;
+    })
+
+-- n of a kind, and what each keeps to, whatever numbers stand in the list
+times-several : {A : Type 0} (P : A → Type 0) (one : List ℕ → Step A) → ((xs : List ℕ) (a : A) (zs : List ℕ) → one xs ≡ got a zs → P a) → (n : ℕ) (xs : List ℕ) {more : List A} {zs : List ℕ} → times n one xs ≡ got more zs → Several P n more
+unfolding times All
+times-several P one f zero xs h = same-got (λ more zs. Several P 0 more) h (refl, tt)
+times-several P one f (suc n) xs h =
+    let g = went (one xs) _ h in
+    let k = went (times n one (g .rest)) (λ more zs. got (g .value ∷ more) zs) (g .second) in
+    let others = times-several P one f n (g .rest) (k .first) in
+    same-got (λ more zs. Several P (suc n) more) (k .second) (ap suc (others .0), (f xs (g .value) (g .rest) (g .first), others .1))
+
+times-count : {A : Type 0} (n : ℕ) (one : List ℕ → Step A) (xs : List ℕ) {more : List A} {zs : List ℕ} → times n one xs ≡ got more zs → length more ≡ n
+times-count n one xs h = times-several (λ _. Unit) one (λ ys a zs e. tt) n xs h .0
+
+-- A walk that got a sheet has the counts that it was sent with, and its equations are within the ranges.
+pub walk-counts : (c : Counts) (xs : List ℕ) {s : Sheet} {zs : List ℕ} → walk c xs ≡ got s zs → countsOf s ≡ c
+walk-counts c xs h =
+    let w = stages c xs h in
+    rw (
+      row-exact letterByte 0 (c .letter-count) xs (w .of-letters) .count,
+      row-exact limitByte 0 (c .field-count) (w .xs1) (w .of-limits) .count,
+      times-count (c .equation-count) _ (w .xs2) (w .of-equations),
+      times-count (c .constraint-count) _ (w .xs3) (w .of-constraints),
     )
 
--- The equations that a walk got are within the ranges, whatever numbers stand in the list.
-times-all : {A : Type 0} (P : A → Type 0) (one : List ℕ → Step A) → ((xs : List ℕ) (a : A) (zs : List ℕ) → one xs ≡ got a zs → P a) → (n : ℕ) (xs : List ℕ) {more : List A} {zs : List ℕ} → times n one xs ≡ got more zs → All P more
-unfolding times All
-times-all P one f zero xs h = same-got (λ more zs. All P more) h tt
-times-all P one f (suc n) xs h =
-    let g = went (one xs) _ h in
-    let k = went (times n one (g .rest)) (λ more zs. got (g .value ∷ more) zs) (g .second) in
-    same-got (λ more zs. All P more) (k .second) (f xs (g .value) (g .rest) (g .first), times-all P one f n (g .rest) (k .first))
-
 pub walk-equations : (c : Counts) (xs : List ℕ) {s : Sheet} {zs : List ℕ} → c .letter-count ≤ 128 → walk c xs ≡ got s zs → All (EquationIn (c .letter-count) (s .limits)) (s .equations)
-unfolding walk
-walk-equations c xs few h =
-    let a = went (row letterByte 0 (c .letter-count) xs) _ h in
-    let m = went (row limitByte 0 (c .field-count) (a .rest)) _ (a .second) in
-    let d = went (times (c .equation-count) (anEquation (c .letter-count) (m .value)) (m .rest)) _ (m .second) in
-    let f = went (times (c .constraint-count) (aConstraint (c .field-count)) (d .rest)) _ (d .second) in
-    same-got (λ (s : Sheet) (zs : List ℕ). All (EquationIn (c .letter-count) (s .limits)) (s .equations)) (f .second)
-    (times-all (EquationIn (c .letter-count) (m .value)) (anEquation (c .letter-count) (m .value)) (λ ys a zs e. equation-exact (c .letter-count) (m .value) few ys e .ok) (c .equation-count) (m .rest) (d .first))
+walk-equations c xs {s} few h =
+    let w = stages c xs h in
+    times-several (EquationIn (c .letter-count) (s .limits)) _ (λ ys a zs e. equation-exact (c .letter-count) (s .limits) few ys e .ok) (c .equation-count) (w .xs2) (w .of-equations) .1
 
--- what the walk got in each section
+-- what the walk of bytes got in each section
 record Walked (c : Counts) (xs : List ℕ) (s : Sheet) (zs : List ℕ) : Type 0 where
   bytes : xs ≡ s .letters ++ (s .limits ++ (each (s .equations) encodeEquation ++ (each (s .constraints) encodeConstraint ++ zs)))
   letter-total : length (s .letters) ≡ c .letter-count
@@ -162,33 +176,24 @@ record Walked (c : Counts) (xs : List ℕ) (s : Sheet) (zs : List ℕ) : Type 0 
   constraints-ok : Several (ConstraintIn (c .field-count)) (c .constraint-count) (s .constraints)
 
 walked : (c : Counts) (xs : List ℕ) {s : Sheet} {zs : List ℕ} → c .letter-count ≤ 128 → Bytes xs → walk c xs ≡ got s zs → Walked c xs s zs
-unfolding walk
-walked c xs hl b h =
-    let l = c .letter-count in
-    let v = c .field-count in
-    let e = c .equation-count in
-    let r = c .constraint-count in
-    let a = went (row letterByte 0 l xs) _ h in
-    let ax = row-exact letterByte 0 l xs (a .first) in
-    let ab = rest-bytes (a .value) (a .rest) (ax .bytes) b .1 in
-    let m = went (row limitByte 0 v (a .rest)) _ (a .second) in
-    let mx = row-exact limitByte 0 v (a .rest) (m .first) in
-    let mb = rest-bytes (m .value) (m .rest) (mx .bytes) ab .1 in
-    let d = went (times e (anEquation l (m .value)) (m .rest)) _ (m .second) in
-    let dx = times-exact (anEquation l (m .value)) encodeEquation (EquationIn l (m .value)) (equation-faithful l (m .value) hl) e (m .rest) mb (d .first) in
-    let db = rest-bytes (each (d .value) encodeEquation) (d .rest) (dx .bytes) mb .1 in
-    let f = went (times r (aConstraint v) (d .rest)) _ (d .second) in
-    let fx = times-exact (aConstraint v) encodeConstraint (ConstraintIn v) (constraint-faithful v) r (d .rest) db (f .first) in
-    same-got (Walked c xs) (f .second)
-    (record {
-      bytes = ax .bytes ∙ ap (λ l. a .value ++ l) (mx .bytes ∙ ap (λ l. m .value ++ l) (dx .bytes ∙ ap (λ l. each (d .value) encodeEquation ++ l) (fx .bytes)));
-      letter-total = ax .count;
-      limit-total = mx .count;
-      letters-ok = ax .pass;
-      limits-ok = mx .pass;
-      equations-ok = dx .ok;
-      constraints-ok = fx .ok;
-    })
+walked c xs {s} few b h =
+    let w = stages c xs h in
+    let l = row-exact letterByte 0 (c .letter-count) xs (w .of-letters) in
+    let lb = rest-bytes (s .letters) (w .xs1) (l .bytes) b .1 in
+    let m = row-exact limitByte 0 (c .field-count) (w .xs1) (w .of-limits) in
+    let mb = rest-bytes (s .limits) (w .xs2) (m .bytes) lb .1 in
+    let d = times-exact _ encodeEquation _ (equation-faithful (c .letter-count) (s .limits) few) (c .equation-count) (w .xs2) mb (w .of-equations) in
+    let db = rest-bytes (each (s .equations) encodeEquation) (w .xs3) (d .bytes) mb .1 in
+    let f = times-exact _ encodeConstraint _ (constraint-faithful (c .field-count)) (c .constraint-count) (w .xs3) db (w .of-constraints) in
+    record {
+      bytes = l .bytes ∙ ap (λ ys. s .letters ++ ys) (m .bytes ∙ ap (λ ys. s .limits ++ ys) (d .bytes ∙ ap (λ ys. each (s .equations) encodeEquation ++ ys) (f .bytes)));
+      letter-total = l .count;
+      limit-total = m .count;
+      letters-ok = l .pass;
+      limits-ok = m .pass;
+      equations-ok = d .ok;
+      constraints-ok = f .ok;
+    }
 
 -- the sheet of a header and a walk that pass
 module _ (c : Counts) (xs : List ℕ) (s : Sheet) (w : Walked c xs s []) where

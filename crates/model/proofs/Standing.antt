@@ -2,7 +2,7 @@
 use mathlib.Core.Path.{_≡_, refl, sym, ap, ap₂, _∙_}
 use mathlib.Core.Bool.{Bool, true, false, not, _&&_, _||_}
 use mathlib.Core.List.{List, [], _∷_, _++_, map, append-nil}
-use Prim.Native.Nat.{ℕ, suc, _+_, _-_, _<_, _≤_}
+use Prim.Native.Nat.{ℕ, suc, _-_, _<_, _≤_}
 use native.Mathlib.Omega.{arith}
 use lib.Dec.{ltb, eqb}
 use lib.ListN.{length, length-append, length-map}
@@ -15,7 +15,7 @@ use Rattle.model.specs.Clause.{Term, holds, lacks, isBlank, notBlank, on
 use Rattle.model.specs.Count.{SideIn, Side, used, atLetter, atField, cellSide, side, standing, locationCount}
 use Rattle.model.proofs.Lists.{by-test, and-split, at, or-false}
 use Rattle.model.proofs.Valid.{CellIn, cell-in}
-use Rattle.model.proofs.Keeping.{from-in, below-in, length-from, from-join, keep-append, keep-map, keep-when, keep-yes, keep-no, keep-all, keep-none, keep-below, keep-one}
+use Rattle.model.proofs.Keeping.{from-in, below-in, length-from, keep-append, keep-map, keep-when, keep-yes, keep-no, keep-all, keep-none, keep-below, keep-around, keep-one}
 
 -- A side of a location has a letter below l, if it has a letter.
 cell-side-in : (s : Sheet) (u : Cell) → CellIn s u → SideIn (blank s) (cellSide u)
@@ -89,17 +89,7 @@ module _ (s : Sheet) (p i j : ℕ) where
         sure-only (ltb j (length (rightCells s p))) (isBlank s v) (sure-blank s v),
       )
 
--- The letters below l: those before b, b, and those after it.
-around : (b l : ℕ) → b < l → upTo l ≡ upTo b ++ (b ∷ from (suc b) (l - suc b))
-unfolding from
-around b l h =
-    let e : l ≡ b + suc (l - suc b) = omega arith in
-    let z : 0 + b ≡ b = omega arith in
-    ap upTo e ∙ from-join 0 b (suc (l - suc b)) ∙ ap (λ c. upTo b ++ from c (suc (l - suc b))) z
-
-keep-around : (t : ℕ → Bool) (b l : ℕ) → b < l → keep t (upTo l) ≡ keep t (upTo b) ++ keep t (b ∷ from (suc b) (l - suc b))
-keep-around t b l h = ap (keep t) (around b l h) ∙ keep-append t (upTo b) (b ∷ from (suc b) (l - suc b))
-
+-- The letters below l: only one, or all but one.
 only-one : (a l : ℕ) → a < l → keep (eqb a) (upTo l) ≡ a ∷ []
 only-one a l h = keep-one (eqb a) l a h (eq-eqb a a refl) (λ b _ q. sym (eqb-true a b q))
 

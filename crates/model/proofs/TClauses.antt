@@ -42,10 +42,10 @@ module _ (s : Sheet) (v : Valuation) (g : Substitution) (legal : Legal s g) (rea
   abbrev longer : ℕ → ℕ → Bool
   longer k d = ltb d (limit s k) && not (v (K k d (blank s)))
 
-  abbrev Added : ℕ → ℤ → ℕ → Type 0
-  Added k z d = ((not (v (T r k z)) || (shorter k d || (longer k d || (v (T r (suc k) (z +ℤ coefficient q k *ℤ pos d)) || false)))) ≡ true)
+  abbrev added : ℕ → ℤ → ℕ → Bool
+  added k z d = not (v (T r k z)) || (shorter k d || (longer k d || (v (T r (suc k) (z +ℤ coefficient q k *ℤ pos d)) || false)))
 
-  add-terms : (k : ℕ) (z : ℤ) (d : ℕ) → any (truth v) (terms s (Add r k z d)) ≡ (not (v (T r k z)) || (shorter k d || (longer k d || (v (T r (suc k) (z +ℤ coefficient q k *ℤ pos d)) || false))))
+  add-terms : (k : ℕ) (z : ℤ) (d : ℕ) → any (truth v) (terms s (Add r k z d)) ≡ added k z d
   unfolding any terms
   add-terms k z d =
       ap₂ (λ x y. not (v (T r k z)) || (x || (y || (v (T r (suc k) (z +ℤ coefficient q k *ℤ pos d)) || false))))
@@ -121,7 +121,7 @@ module _ (s : Sheet) (v : Valuation) (g : Substitution) (legal : Legal s g) (rea
     unfolding weight
     start-met = says 0 (pos 0)
 
-    add-met : (k : ℕ) (z : ℤ) (d : ℕ) → k < fields s → d ≤ limit s k → Added k z d
+    add-met : (k : ℕ) (z : ℤ) (d : ℕ) → k < fields s → d ≤ limit s k → added k z d ≡ true
     unfolding weight
     add-met k z d h m = imply (v (T r k z)) (λ p. or-else (shorter k d) (λ ns. or-else (longer k d) (λ nl.
         let e : z ≡ weight q g k = eqZ-true z (weight q g k) (sym (says k z) ∙ p) in
