@@ -72,6 +72,21 @@ int64_t tpl_count(const uint8_t *sheet, size_t n, uint64_t counts[3]);
  */
 int64_t tpl_line(const uint8_t *sheet, size_t n, uint64_t line, uint8_t *text, size_t cap);
 
+/* Reads the m bytes of a SAT solver's reply to a sheet's clause file, and believes none of it: what is accepted is a filling that clashes.
+ * A reply is text. Lines that start with "c" are skipped; one line is "s SATISFIABLE"; the others are "v" and numbers, each after one
+ * space. A number is a variable's, with a minus where the variable is false, and the last one is 0. Variables that are not listed are false.
+ * Returns 0, with the filling in the first 9 bytes per field of the buffer of cap bytes and the later ones unchanged. A buffer of 54 is
+ * always long enough.
+ * Or it returns minus the number of the first refusal, which is one of tpl_read's, or else, in this order, each over the whole text:
+ *   27 buffer shorter than 9 bytes per field        34 no number 0, or a number after it
+ *   30 over 65,536 bytes                            35 a number of no variable
+ *   31 the last line does not end                   36 a variable given twice
+ *   32 a line of no known form                      37 a place of a field without just one true value
+ *   33 not just one s line, or a v line before it   38 a letter after a blank in a field
+ *                                                   39 the filling does not clash
+ */
+int64_t tpl_reply(const uint8_t *sheet, size_t n, const uint8_t *reply, size_t m, uint8_t *filling, size_t cap);
+
 #ifdef __cplusplus
 }
 #endif

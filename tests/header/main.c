@@ -82,15 +82,57 @@ static void writing(void) {
     }
 }
 
+/* Calls tpl_reply on a text. */
+static int64_t reply(size_t n, const char *text, uint8_t *filling, size_t cap) {
+    return tpl_reply(sheet, n, (const uint8_t *)text, strlen(text), filling, cap);
+}
+
+/* Replies that are refused, each with its number. */
+static const struct { int64_t number; const char *text; } refused[9] = {
+    { 31, "s SATISFIABLE\nv 1 0" },
+    { 32, "s UNSATISFIABLE\n" },
+    { 33, "" },
+    { 34, "s SATISFIABLE\nv 1\n" },
+    { 35, "s SATISFIABLE\nv 1 7 0\n" },
+    { 36, "s SATISFIABLE\nv 1 -1 0\n" },
+    { 37, "s SATISFIABLE\nv 1 2 0\n" },
+    { 37, "s SATISFIABLE\nv 0\n" },
+    { 39, "s SATISFIABLE\nv 2 0\n" }
+};
+
+static void replying(void) {
+    static const char good[] = "c\ns SATISFIABLE\nv 1 -2 3\nv -4 -5 6 0\n";
+    static uint8_t large[65537];
+    uint8_t filling[54], before[54];
+    memset(before, '.', sizeof before);
+    memcpy(filling, before, sizeof filling);
+    memset(large, 'c', sizeof large);
+    expect(reply(16, good, filling, 54) == -9, "reading a reply reads the sheet first");
+    expect(reply(15, good, filling, 8) == -27, "eight bytes for one field's filling are refused with 27");
+    expect(tpl_reply(sheet, 15, large, 65537, filling, 54) == -30, "65,537 bytes are refused with 30");
+    expect(tpl_reply(sheet, 15, large, 65536, filling, 54) == -31, "65,536 bytes are not");
+    for (size_t i = 0; i < 9; i++) {
+        expect(reply(15, refused[i].text, filling, 54) == -refused[i].number, "a faulty reply is refused with its number");
+    }
+    expect(memcmp(filling, before, sizeof filling) == 0, "a refusal leaves the filling's buffer");
+    expect(reply(15, good, filling, 54) == 0, "a reply to P is accepted");
+    expect(memcmp(filling, is_a, sizeof is_a) == 0, "its filling is X=A");
+    expect(memcmp(filling + 9, before, sizeof filling - 9) == 0, "the bytes after a filling stay");
+    memcpy(filling, before, sizeof filling);
+    expect(reply(15, "s SATISFIABLE\nv 1 0\n", filling, 9) == 0, "the true place alone is enough, and nine bytes are");
+    expect(memcmp(filling, is_a, sizeof is_a) == 0, "the filling is again X=A");
+}
+
 int main(void) {
     reading();
     checking();
     spelling();
     counting();
     writing();
+    replying();
     if (!all_passed) {
         return 1;
     }
-    puts("C header: the five calls answer as they must on P");
+    puts("C header: the six calls answer as they must on P");
     return 0;
 }

@@ -1,52 +1,66 @@
 //! A plain reader of assignments, written from document 01 alone ("An assignment makes each
-//! variable .."). It knows nothing of the library.
+//! variable ..", and of "Reading a reply" what is said of its numbers). It knows nothing of the
+//! library.
 
-use crate::fillings;
-use crate::reader::{self, Sheet};
+use crate::reader::Sheet;
+use crate::refusal::Refusal;
 use crate::speller::{self, Filling, Verdict};
 use crate::writer::{self, File, Variable};
-use std::collections::HashMap;
+use std::collections::{BTreeMap, HashMap};
 
-/// Which variables are true, by their numbers; the first is variable 1's.
-struct Assignment {
-    values: Vec<bool>,
+/// An accepted sheet with the numbers of its variables.
+pub struct Numbered {
+    pub sheet: Sheet,
+    pub numbers: HashMap<Variable, usize>,
+}
+
+impl Numbered {
+    pub fn new(sheet: Sheet) -> Numbered {
+        Numbered {
+            numbers: writer::numbers(&sheet),
+            sheet,
+        }
+    }
+}
+
+/// The variables that are listed, by their numbers, each with its value. The others are false.
+pub struct Assignment {
+    listed: BTreeMap<usize, bool>,
 }
 
 /// Reads an assignment from the numbers that are listed, and says what is wrong with it: a place of
 /// a field, a clause, or the filling that it spells.
-pub fn judge(sheet: &[u8], listed: &[i64]) -> Result<(), &'static str> {
-    let file = writer::accepted(sheet);
-    let assignment = read(listed, file.variables)?;
-    let filling = assignment.filling(&reader::accepted(sheet))?;
-    if !assignment.satisfies(&file) {
-        return Err("a clause has no true literal");
+pub fn judge(sheet: &Numbered, listed: &[i64]) -> Result<(), String> {
+    let refused = |refusal| format!("as a reply this is refused: {refusal:?}");
+    let assignment = read(listed, sheet.numbers.len()).map_err(refused)?;
+    let filling = assignment.filling(sheet).map_err(refused)?;
+    if !assignment.satisfies(&writer::file_of(&sheet.sheet)) {
+        return Err("a clause has no true literal".to_string());
     }
-    match speller::check(sheet, &fillings::encode(&filling)) {
-        Ok(Verdict::Clash) => Ok(()),
-        Ok(_) => Err("the filling that the assignment spells does not clash"),
-        Err(_) => Err("the filling that the assignment spells is refused"),
+    match speller::judge(&sheet.sheet, &filling) {
+        Verdict::Clash => Ok(()),
+        _ => Err("the filling that the assignment spells does not clash".to_string()),
     }
 }
 
-/// A variable that is not listed, or listed negative, is false.
-fn read(listed: &[i64], variables: usize) -> Result<Assignment, &'static str> {
-    let mut values = vec![None; variables];
-    for &number in listed {
-        let place = number.unsigned_abs() as usize - 1;
-        let value = values.get_mut(place).ok_or("there is no such variable")?;
-        if value.replace(number > 0).is_some() {
-            return Err("a variable is listed twice");
-        }
+/// Reads an assignment, if each number is of one of the variables, and each variable is listed once
+/// at most.
+pub fn read(listed: &[i64], variables: usize) -> Result<Assignment, Refusal> {
+    let variable = |number: i64| number.unsigned_abs() as usize;
+    if listed.iter().any(|&number| variable(number) > variables) {
+        return Err(Refusal::VariableNumber);
     }
-    let values = values.into_iter().map(|value| value.unwrap_or(false));
-    Ok(Assignment {
-        values: values.collect(),
-    })
+    let values = listed.iter().map(|&number| (variable(number), number > 0));
+    let values: BTreeMap<usize, bool> = values.collect();
+    if values.len() < listed.len() {
+        return Err(Refusal::VariableTwice);
+    }
+    Ok(Assignment { listed: values })
 }
 
 impl Assignment {
     fn is_true(&self, variable: usize) -> bool {
-        self.values[variable - 1]
+        self.listed.get(&variable) == Some(&true)
     }
 
     /// Has each clause a true literal: a number whose variable is true, or a minus number whose
@@ -58,35 +72,31 @@ impl Assignment {
         clauses.all(|clause| clause.iter().any(is_true))
     }
 
-    /// The filling that it spells, if each place has just one true value and blanks come last.
-    fn filling(&self, sheet: &Sheet) -> Result<Filling, &'static str> {
-        let numbers = writer::numbers(sheet);
-        let fields = sheet.limits.iter().enumerate();
-        fields
+    /// The filling that it spells, if each place has just one true value, and blanks come last in
+    /// each field.
+    pub fn filling(&self, sheet: &Numbered) -> Result<Filling, Refusal> {
+        let limits = sheet.sheet.limits.iter().enumerate();
+        let fields: Option<Vec<Vec<usize>>> = limits
             .map(|(field, &limit)| {
                 let places = 0..usize::from(limit);
-                let values: Result<Vec<usize>, _> = places
-                    .map(|place| self.value(sheet, &numbers, field, place))
-                    .collect();
-                text(&values?, sheet.letters.len())
+                places
+                    .map(|place| self.value(sheet, field, place))
+                    .collect()
             })
-            .collect()
+            .collect();
+        let fields = fields.ok_or(Refusal::PlaceValue)?;
+        let blank = sheet.sheet.letters.len();
+        let texts: Option<Filling> = fields.iter().map(|values| text(values, blank)).collect();
+        texts.ok_or(Refusal::LetterAfterBlank)
     }
 
     /// The one true value of a place.
-    fn value(
-        &self,
-        sheet: &Sheet,
-        numbers: &HashMap<Variable, usize>,
-        field: usize,
-        place: usize,
-    ) -> Result<usize, &'static str> {
-        let is_held = |&a: &usize| self.is_true(numbers[&Variable::K(field, place, a)]);
-        let values: Vec<usize> = (0..=sheet.letters.len()).filter(is_held).collect();
+    fn value(&self, sheet: &Numbered, field: usize, place: usize) -> Option<usize> {
+        let is_held = |&a: &usize| self.is_true(sheet.numbers[&Variable::K(field, place, a)]);
+        let values: Vec<usize> = (0..=sheet.sheet.letters.len()).filter(is_held).collect();
         match values[..] {
-            [value] => Ok(value),
-            [] => Err("a place has no true value"),
-            _ => Err("a place has two true values"),
+            [value] => Some(value),
+            _ => None,
         }
     }
 }
@@ -100,11 +110,9 @@ fn literals(line: &[u8]) -> Vec<i64> {
 }
 
 /// A field's text from the values of its places: the letters up to the first blank.
-fn text(values: &[usize], blank: usize) -> Result<Vec<u8>, &'static str> {
+fn text(values: &[usize], blank: usize) -> Option<Vec<u8>> {
     let first_blank = values.iter().position(|&value| value == blank);
     let (letters, tail) = values.split_at(first_blank.unwrap_or(values.len()));
-    if tail.iter().any(|&value| value != blank) {
-        return Err("a letter comes after a blank");
-    }
-    Ok(letters.iter().map(|&letter| letter as u8).collect())
+    let all_blank = tail.iter().all(|&value| value == blank);
+    all_blank.then(|| letters.iter().map(|&letter| letter as u8).collect())
 }

@@ -30,6 +30,16 @@ extern "C" {
 
     /// Answers the line's length and the line, or minus the refusal's number and no line.
     fn tpl_line(sheet: *const u8, n: usize, line: u64, text: *mut u8, cap: usize) -> i64;
+
+    /// Answers 0 and the filling, or minus the refusal's number and no filling.
+    fn tpl_reply(
+        sheet: *const u8,
+        n: usize,
+        reply: *const u8,
+        m: usize,
+        filling: *mut u8,
+        cap: usize,
+    ) -> i64;
 }
 
 /// What one call answered and left behind.
@@ -60,9 +70,9 @@ pub const COUNTS_BEFORE: [u64; 4] = [
     1 << 63,
 ];
 
-/// What a text buffer of `room` bytes holds before a call: no letter and no byte of a line, and
-/// never one byte twice in a row.
-pub fn text_before(room: usize) -> Vec<u8> {
+/// What a buffer of `room` bytes holds before a call: no letter, no byte of a line or of a filling,
+/// and never one byte twice in a row.
+pub fn buffer_before(room: usize) -> Vec<u8> {
     (0..room).map(|place| 128 + (place % 125) as u8).collect()
 }
 
@@ -70,8 +80,10 @@ pub fn text_before(room: usize) -> Vec<u8> {
 /// everywhere, so that a call that reads past the end is likely to give a wrong answer.
 const SHEET_MARGIN: [u8; 16] = margin(0);
 const FILLING_MARGIN: [u8; 16] = margin(255);
-/// Without letters, so that a letter written past the end shows.
-const TEXT_MARGIN: [u8; 16] = margin(165);
+/// Likewise the byte after a reply ends a line, and known lines follow.
+const REPLY_MARGIN: &[u8; 16] = b"\nc\nv\nv 0\nv 1 0\nv";
+/// Without letters and bytes of a filling, so that one written past the end shows.
+const WRITTEN_MARGIN: [u8; 16] = margin(165);
 const COUNTS_MARGIN: [u64; 2] = [0x3C3C_3C3C_3C3C_3C3C, 0xC3C3_C3C3_C3C3_C3C3];
 
 /// Sixteen bytes, no two the same.
@@ -122,7 +134,7 @@ pub fn check(sheet: &[u8], filling: &[u8]) -> Outcome<u8> {
 pub fn spell(asked: Spelling) -> Outcome<u8> {
     let mut bytes = Lent::new(asked.sheet, &SHEET_MARGIN);
     let mut fields = Lent::new(asked.filling, &FILLING_MARGIN);
-    let mut text = Lent::new(&text_before(asked.room), &TEXT_MARGIN);
+    let mut text = Lent::new(&buffer_before(asked.room), &WRITTEN_MARGIN);
     // The pointers lead to as many bytes as the number after each says.
     let status = unsafe {
         tpl_spell(
@@ -159,12 +171,35 @@ pub fn count(sheet: &[u8]) -> Outcome<u64> {
 /// Calls `tpl_line` on a copy of `sheet`, with a buffer of `room` bytes.
 pub fn line(sheet: &[u8], number: u64, room: usize) -> Outcome<u8> {
     let mut bytes = Lent::new(sheet, &SHEET_MARGIN);
-    let mut text = Lent::new(&text_before(room), &TEXT_MARGIN);
+    let mut text = Lent::new(&buffer_before(room), &WRITTEN_MARGIN);
     // The pointers lead to `sheet.len()` and `room` bytes.
     let status = unsafe { tpl_line(bytes.pointer(), sheet.len(), number, text.pointer(), room) };
     Outcome {
         status,
         lent: text.content().to_vec(),
         rest_unchanged: bytes.unchanged() && text.margins_unchanged(),
+    }
+}
+
+/// Calls `tpl_reply` on copies of the sheet and the reply, with a buffer of `room` bytes.
+pub fn reply(sheet: &[u8], reply: &[u8], room: usize) -> Outcome<u8> {
+    let mut bytes = Lent::new(sheet, &SHEET_MARGIN);
+    let mut text = Lent::new(reply, REPLY_MARGIN);
+    let mut filling = Lent::new(&buffer_before(room), &WRITTEN_MARGIN);
+    // The pointers lead to as many bytes as the number after each says.
+    let status = unsafe {
+        tpl_reply(
+            bytes.pointer(),
+            sheet.len(),
+            text.pointer(),
+            reply.len(),
+            filling.pointer(),
+            room,
+        )
+    };
+    Outcome {
+        status,
+        lent: filling.content().to_vec(),
+        rest_unchanged: bytes.unchanged() && text.unchanged() && filling.margins_unchanged(),
     }
 }

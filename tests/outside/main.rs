@@ -1,9 +1,11 @@
 //! Compares the static library with plain answers to the same calls, some hundred thousand times
-//! each, and ends with status 1 at the first case on which the two differ. With the word `clauses`
-//! it tests nothing, and prints the clause file of the sheet on standard input from the plain
-//! writer. With the word `solvers` and names of SAT solvers it gives the library's clause files to
-//! these, and compares what they say with brute force.
+//! each, and ends with status 1 at the first case on which the two differ. With the word `replies`
+//! it does so for replies, else for all other calls. With the word `clauses` it tests nothing, and
+//! prints the clause file of the sheet on standard input from the plain writer. With the word
+//! `solvers` and names of SAT solvers it gives the library's clause files to these, compares what
+//! they say with brute force, and gives their replies to the library.
 
+mod answers;
 mod assignment;
 mod brute;
 mod changes;
@@ -19,6 +21,8 @@ mod random;
 mod reader;
 mod reading;
 mod refusal;
+mod replies;
+mod reply;
 mod report;
 mod shapes;
 mod sheets;
@@ -27,6 +31,7 @@ mod solving;
 mod speller;
 mod tally;
 mod test;
+mod texts;
 mod writer;
 mod writing;
 
@@ -41,6 +46,7 @@ fn main() -> io::Result<()> {
             io::stdin().read_to_end(&mut sheet)?;
             writer::print(&sheet)?;
         }
+        Some("replies") => replies::run(),
         Some("solvers") => solving::run(&words.collect::<Vec<String>>()),
         Some(word) => panic!("no such word: {word}"),
     }

@@ -48,12 +48,16 @@ const FAULTS: [Fault; 11] = [
     Fault(26, true, |asked| asked.room = 2),
 ];
 
+/// Every choice of some faults, in their order.
+pub fn choices<T>(faults: &[T]) -> impl Iterator<Item = Vec<&T>> {
+    (0..1 << faults.len()).map(move |choice: usize| {
+        let chosen = (0..faults.len()).filter(|fault| choice >> fault & 1 == 1);
+        chosen.map(|fault| &faults[fault]).collect()
+    })
+}
+
 fn several_faults(test: &mut Test) {
-    for choice in 0..1 << FAULTS.len() {
-        let chosen: Vec<&Fault> = (0..FAULTS.len())
-            .filter(|fault| choice >> fault & 1 == 1)
-            .map(|fault| &FAULTS[fault])
-            .collect();
+    for chosen in choices(&FAULTS) {
         let mut asked = faultless();
         for Fault(_, _, make) in &chosen {
             make(&mut asked);

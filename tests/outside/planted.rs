@@ -1,6 +1,7 @@
 //! Changes sheets so that a filling clashes in them, or nearly does. Of sheets made by chance
 //! hardly any clash.
 
+use crate::fillings;
 use crate::random::Random;
 use crate::reader::*;
 use crate::speller::{self, Filling};
@@ -20,6 +21,14 @@ pub fn plant(random: &mut Random, sheet: &mut Sheet, filling: &Filling) {
         }
     }
     plant_rules(random, sheet, filling);
+}
+
+/// A sheet that `make` makes, in which a filling was made to clash, and that filling.
+pub fn clashing(random: &mut Random, make: fn(&mut Random) -> Sheet) -> (Sheet, Filling) {
+    let mut sheet = make(random);
+    let filling = fillings::legal(random, &sheet);
+    plant(random, &mut sheet, &filling);
+    (sheet, filling)
 }
 
 /// Makes one filling fit every other pair and another filling the pairs between, so that a field

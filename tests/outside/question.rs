@@ -3,14 +3,14 @@
 
 use crate::engine;
 use crate::fillings;
-use crate::reader::{self, Pair, Sheet};
+use crate::reader::Pair;
+use crate::reply::Asked;
 use crate::report::{require, Hex};
 use crate::speller::{self, Filling, Verdict};
 use crate::writing::ROOMY;
 
 pub struct Question {
-    pub bytes: Vec<u8>,
-    pub sheet: Sheet,
+    pub asked: Asked,
     /// The library's clause file.
     pub clauses: Vec<u8>,
     /// Some filling clashes.
@@ -30,9 +30,10 @@ pub const REASONS: [&str; 5] = [
 
 impl Question {
     pub fn new(bytes: &[u8]) -> Question {
-        let sheet = reader::accepted(bytes);
-        let fillings = fillings::all(&sheet);
-        let judge = |filling| speller::judge(&sheet, filling);
+        let asked = Asked::new(bytes);
+        let sheet = &asked.accepted().sheet;
+        let fillings = fillings::all(sheet);
+        let judge = |filling| speller::judge(sheet, filling);
         let verdicts: Vec<Verdict> = fillings.iter().map(judge).collect();
         let clash = verdicts.contains(&Verdict::Clash);
         let breaks = |verdict: &Verdict| matches!(verdict, Verdict::RuleBreaks(_));
@@ -45,11 +46,10 @@ impl Question {
             (false, false) => "apart, for one pair alone",
         };
         Question {
-            bytes: bytes.to_vec(),
+            asked,
             clauses: clauses(bytes),
             clash,
             reason,
-            sheet,
         }
     }
 }
@@ -59,7 +59,7 @@ fn agrees(pair: &Pair, filling: &Filling) -> bool {
 }
 
 /// All lines that the library writes for a sheet.
-fn clauses(sheet: &[u8]) -> Vec<u8> {
+pub fn clauses(sheet: &[u8]) -> Vec<u8> {
     let counted = engine::count(sheet);
     require(
         counted.status == 0 && counted.rest_unchanged,

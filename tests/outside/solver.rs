@@ -8,12 +8,13 @@ use std::process::{Command, ExitStatus};
 
 pub struct Solver {
     pub name: &'static str,
-    options: &'static [&'static str],
+    /// Used in turn.
+    options: &'static [&'static [&'static str]],
     listing: Listing,
 }
 
-/// Where a solver lists an assignment: after a v in lines that it prints, or after a first line in
-/// a file that it is given the name of.
+/// Where a solver lists an assignment: after a v in lines that it prints, which are a reply in
+/// document 01's form, or after a first line in a file that it is given the name of.
 #[derive(PartialEq)]
 enum Listing {
     Printed,
@@ -24,17 +25,17 @@ enum Listing {
 const ALL: [Solver; 3] = [
     Solver {
         name: "cadical",
-        options: &["-q"],
+        options: &[&["-q"], &[]],
         listing: Listing::Printed,
     },
     Solver {
         name: "minisat",
-        options: &["-verb=0"],
+        options: &[&["-verb=0"]],
         listing: Listing::Filed,
     },
     Solver {
         name: "picosat",
-        options: &[],
+        options: &[&[]],
         listing: Listing::Printed,
     },
 ];
@@ -46,6 +47,8 @@ const UNSATISFIABLE: Option<i32> = Some(20);
 pub struct Reply {
     pub status: ExitStatus,
     pub printed: String,
+    /// What it printed, if that is to be a reply in document 01's form.
+    pub form: Option<Vec<u8>>,
     /// Where it lists an assignment, if it has one.
     pub listing: String,
 }
@@ -64,13 +67,24 @@ pub fn named(name: &str) -> Solver {
 }
 
 impl Solver {
-    /// Asks about a clause file, with files of its own in `folder`.
-    pub fn ask(&self, folder: &Path, clauses: &[u8]) -> io::Result<Reply> {
+    /// Are its replies in document 01's form?
+    pub fn has_form(&self) -> bool {
+        self.listing == Listing::Printed
+    }
+
+    /// Asks about a clause file, for the `turn`th time, with files of its own in `folder`.
+    pub fn ask(&self, turn: usize, folder: &Path, clauses: &[u8]) -> Reply {
+        let reply = self.try_to_ask(turn, folder, clauses);
+        reply.unwrap_or_else(|error| panic!("{} cannot be asked: {error}", self.name))
+    }
+
+    fn try_to_ask(&self, turn: usize, folder: &Path, clauses: &[u8]) -> io::Result<Reply> {
         let question = folder.join(format!("{}.cnf", self.name));
         let filed = folder.join(format!("{}.listing", self.name));
         fs::write(&question, clauses)?;
         let mut command = Command::new(self.name);
-        command.args(self.options).arg(&question);
+        command.args(self.options[turn % self.options.len()]);
+        command.arg(&question);
         if self.listing == Listing::Filed {
             fs::write(&filed, "")?;
             command.arg(&filed);
@@ -84,6 +98,7 @@ impl Solver {
         Ok(Reply {
             status: output.status,
             printed: printed + &text(&output.stderr),
+            form: self.has_form().then_some(output.stdout),
             listing,
         })
     }

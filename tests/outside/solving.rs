@@ -1,21 +1,25 @@
 //! Gives the library's clause files of small sheets to SAT solvers. A solver is to find a file
 //! satisfiable just when brute force finds a filling that clashes, and the assignment that it then
-//! lists is to spell such a filling.
+//! lists is to spell such a filling. What a solver prints in document 01's form is given to the
+//! library, as it is and damaged; also for some large sheets, of which only one clash is known.
 
 use crate::assignment;
 use crate::examples;
 use crate::fillings;
 use crate::planted;
-use crate::question::{Question, REASONS};
+use crate::question::{self, Question, REASONS};
 use crate::random::Random;
 use crate::reader::{Rule, Sheet};
+use crate::refusal::Refusal;
+use crate::replies::Replies;
+use crate::reply::Asked;
 use crate::report::{require, Hex};
 use crate::shapes;
 use crate::sheets;
 use crate::solver::{self, Answer, Reply, Solver};
 use crate::tally::Tally;
+use crate::texts;
 use crate::writer;
-use std::io;
 use std::path::{Path, PathBuf};
 use std::thread;
 
@@ -23,6 +27,9 @@ const GENERATED: usize = 4000;
 const NO_PLACES_PERCENT: usize = 25;
 const SPOILED_PERCENT: usize = 35;
 const NEW_LIMIT_PERCENT: usize = 25;
+/// How many copies of what a solver printed are damaged.
+const DAMAGED_COPIES: usize = 3;
+const LARGE: usize = 40;
 /// How many sheets the solvers are asked about before their replies are looked at.
 const AT_ONCE: usize = 500;
 /// How many sheets must clash and how many be apart, and how many have each reason and each shape.
@@ -37,12 +44,14 @@ pub fn run(names: &[String]) {
     let folder = folder();
     let sheets = small_sheets(&mut Random::new(1));
     let mut met = Met::new();
+    let mut replies = Replies::new("replies of solvers", [27].into_iter().chain(31..=39));
     for some in sheets.chunks(AT_ONCE) {
         let questions: Vec<Question> = some.iter().map(|sheet| Question::new(sheet)).collect();
-        let replies = ask_all(&solvers, &folder, &questions);
-        for (solver, replies) in solvers.iter().zip(&replies) {
-            for (question, reply) in questions.iter().zip(replies) {
+        let replied = ask_all(&solvers, &folder, &questions);
+        for (solver, replied) in solvers.iter().zip(&replied) {
+            for (question, reply) in questions.iter().zip(replied) {
                 hold(question, solver, reply);
+                hand_over(&mut replies, &question.asked, question.clash, reply);
             }
         }
         questions.iter().for_each(|question| met.count(question));
@@ -53,6 +62,10 @@ pub fn run(names: &[String]) {
         );
     }
     met.finish();
+    ask_about_large_sheets(&mut replies, &solvers, &folder);
+    if solvers.iter().any(Solver::has_form) {
+        replies.finish();
+    }
     println!(
         "outside: brute force agrees with {} on {} small sheets: {} clash, {} apart",
         in_a_row(names),
@@ -139,19 +152,17 @@ fn ask_all(solvers: &[Solver], folder: &Path, questions: &[Question]) -> Vec<Vec
         let start = |solver| scope.spawn(move || ask(solver, folder, questions));
         let threads: Vec<_> = solvers.iter().map(start).collect();
         let ended = threads.into_iter().map(|thread| thread.join());
-        let asked = ended.map(|asked| asked.expect("a thread that ends"));
-        asked
-            .zip(solvers)
-            .map(|(asked, solver)| {
-                asked.unwrap_or_else(|error| panic!("{} cannot be asked: {error}", solver.name))
-            })
+        ended
+            .map(|replies| replies.expect("a thread that ends"))
             .collect()
     })
 }
 
-fn ask(solver: &Solver, folder: &Path, questions: &[Question]) -> io::Result<Vec<Reply>> {
-    let clauses = questions.iter().map(|question| &question.clauses);
-    clauses.map(|clauses| solver.ask(folder, clauses)).collect()
+fn ask(solver: &Solver, folder: &Path, questions: &[Question]) -> Vec<Reply> {
+    let turns = questions.iter().enumerate();
+    turns
+        .map(|(turn, question)| solver.ask(turn, folder, &question.clauses))
+        .collect()
 }
 
 /// Fails if a reply does not fit what brute force found.
@@ -159,9 +170,9 @@ fn hold(question: &Question, solver: &Solver, reply: &Reply) {
     let compared = compare(question, reply);
     require(
         compared.is_ok(),
-        compared.err().unwrap_or_default(),
+        &compared.err().unwrap_or_default(),
         &[
-            ("sheet", &Hex(&question.bytes)),
+            ("sheet", &Hex(&question.asked.sheet)),
             ("solver", &solver.name),
             ("ended with", &reply.status),
             ("printed", &reply.printed),
@@ -171,17 +182,69 @@ fn hold(question: &Question, solver: &Solver, reply: &Reply) {
 }
 
 /// What is wrong with a reply.
-fn compare(question: &Question, reply: &Reply) -> Result<(), &'static str> {
+fn compare(question: &Question, reply: &Reply) -> Result<(), String> {
     match (reply.answer()?, question.clash) {
-        (Answer::Satisfiable(listed), true) => assignment::judge(&question.bytes, &listed),
+        (Answer::Satisfiable(listed), true) => {
+            assignment::judge(question.asked.accepted(), &listed)
+        }
         (Answer::Unsatisfiable, false) => Ok(()),
         (Answer::Satisfiable(_), false) => {
-            Err("the solver finds an assignment, but no filling clashes")
+            Err("the solver finds an assignment, but no filling clashes".to_string())
         }
         (Answer::Unsatisfiable, true) => {
-            Err("the solver finds no assignment, but a filling clashes")
+            Err("the solver finds no assignment, but a filling clashes".to_string())
         }
     }
+}
+
+/// Gives a reply in document 01's form to the library: just that of a sheet that clashes is a
+/// filling. Then damaged copies of it.
+fn hand_over(replies: &mut Replies, asked: &Asked, clash: bool, reply: &Reply) {
+    let printed = match &reply.form {
+        Some(printed) => printed,
+        None => return,
+    };
+    let refusal = asked.read(printed, asked.filling_bytes()).err();
+    let due = if clash {
+        None
+    } else {
+        Some(Refusal::UnknownLine)
+    };
+    require(
+        refusal == due,
+        "the reply as the solver printed it is not taken, or taken where nothing clashes",
+        &[
+            ("sheet", &Hex(&asked.sheet)),
+            ("printed", &reply.printed),
+            ("refusal", &format!("{refusal:?}")),
+        ],
+    );
+    replies.compare(asked, printed);
+    for _ in 0..DAMAGED_COPIES {
+        let mut text = printed.clone();
+        texts::damage(&mut replies.random, &mut text);
+        replies.compare(asked, &text);
+    }
+    if let Ok(Answer::Satisfiable(listed)) = reply.answer() {
+        let mut listing = [listed, vec![0]].concat();
+        texts::damage_listing(&mut replies.random, asked.accepted(), &mut listing);
+        let text = texts::set_out(&mut replies.random, &listing);
+        replies.compare(asked, &text);
+    }
+}
+
+/// Sheets of all sizes in which a filling was made to clash.
+fn ask_about_large_sheets(replies: &mut Replies, solvers: &[Solver], folder: &Path) {
+    for turn in 0..LARGE {
+        let (sheet, _) = planted::clashing(&mut replies.random, sheets::valid);
+        let asked = Asked::new(&sheets::encode(&sheet));
+        let clauses = question::clauses(&asked.sheet);
+        for solver in solvers.iter().filter(|solver| solver.has_form()) {
+            let reply = solver.ask(turn, folder, &clauses);
+            hand_over(replies, &asked, true, &reply);
+        }
+    }
+    println!("outside: large sheets given to solvers: {LARGE}");
 }
 
 /// What came up among the sheets.
@@ -212,7 +275,8 @@ impl Met {
             (&mut self.apart, &mut self.apart_shapes)
         };
         *sheets += 1;
-        for shape in shapes::of(&question.sheet, &shapes::OF_SMALL) {
+        let sheet = &question.asked.accepted().sheet;
+        for shape in shapes::of(sheet, &shapes::OF_SMALL) {
             shapes.count(Ok(shape));
         }
         self.reasons.count(Ok(question.reason));

@@ -89,7 +89,7 @@ impl Test {
 
     /// Compares how a template is spelled.
     pub fn spell(&mut self, asked: Spelling) {
-        let mut buffer = engine::text_before(asked.room);
+        let mut buffer = engine::buffer_before(asked.room);
         let (status, answer) = match speller::spell(asked) {
             Ok(text) => {
                 buffer[..text.len()].copy_from_slice(&text);
@@ -128,7 +128,7 @@ impl Test {
 
     /// Compares how line `number` is written into a buffer of `room` bytes.
     pub fn line(&mut self, written: &Written, number: u64, room: usize) {
-        let mut buffer = engine::text_before(room);
+        let mut buffer = engine::buffer_before(room);
         let (status, answer) = match written.line(number, room) {
             Ok(line) => {
                 buffer[..line.bytes.len()].copy_from_slice(&line.bytes);
@@ -168,12 +168,12 @@ impl Test {
 }
 
 /// What a call returns for a refusal.
-fn status(refusal: Refusal) -> i64 {
+pub fn status(refusal: Refusal) -> i64 {
     -(refusal as i64)
 }
 
 /// What a call is to answer and leave behind.
-fn due<T: Clone>(status: i64, lent: &[T]) -> Outcome<T> {
+pub fn due<T: Clone>(status: i64, lent: &[T]) -> Outcome<T> {
     Outcome {
         status,
         lent: lent.to_vec(),
@@ -182,7 +182,7 @@ fn due<T: Clone>(status: i64, lent: &[T]) -> Outcome<T> {
 }
 
 /// Fails if the library did not answer what is due.
-fn hold<T: PartialEq + Debug>(got: Outcome<T>, due: Outcome<T>, case: &Case) {
+pub fn hold<T: PartialEq + Debug>(got: Outcome<T>, due: Outcome<T>, case: &Case) {
     let answers: &Case = &[("plain", &due), ("library", &got)];
     require(
         got == due,

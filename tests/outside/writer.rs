@@ -99,11 +99,6 @@ pub fn write(sheet: &[u8]) -> Written {
     }
 }
 
-/// Writes the clause file of a sheet that is known to be accepted.
-pub fn accepted(sheet: &[u8]) -> File {
-    file_of(&reader::accepted(sheet))
-}
-
 /// Prints a sheet's clause file as the clause program is to print it.
 pub fn print(sheet: &[u8]) -> io::Result<()> {
     let printed = match write(sheet).file {
@@ -114,7 +109,7 @@ pub fn print(sheet: &[u8]) -> io::Result<()> {
 }
 
 /// The clause file of an accepted sheet.
-fn file_of(sheet: &Sheet) -> File {
+pub fn file_of(sheet: &Sheet) -> File {
     let numbers = numbers(sheet);
     let variables = numbers.len();
     let mut writer = Writer {
@@ -158,7 +153,7 @@ pub fn numbers(sheet: &Sheet) -> HashMap<Variable, usize> {
 }
 
 /// All variables, in order.
-fn variables(sheet: &Sheet) -> Vec<Variable> {
+pub fn variables(sheet: &Sheet) -> Vec<Variable> {
     let mut all = Vec::new();
     for (f, &limit) in sheet.limits.iter().enumerate() {
         for c in 0..usize::from(limit) {

@@ -3,7 +3,6 @@ use encoding::Counting;
 use encoding::LINE_ROOM;
 use libc::STDIN_FILENO;
 use libc::STDOUT_FILENO;
-use scan::wide;
 ghost use Prim.Native.Nat.{_≤_};
 ghost use lib.ListN.{length};
 ghost use Rattle.model.specs.Sheet.{sheetOf};
@@ -14,7 +13,7 @@ ghost use Rattle.model.specs.Clause.{ids};
 const SHEET: usize = 160;
 
 // Room for the line of a refusal.
-const REFUSED: usize = 16;
+const REFUSED: usize = 12;
 
 fn main() {
     let mut buf = [0u8; SHEET];
@@ -55,8 +54,6 @@ fn show_line(sheet: &[u8], n: usize) -> bool
 // Prints the line of a refusal.
 fn show_refusal(number: u8) {
     let mut line = [0u8; REFUSED];
-    let word = words::put(&mut line, 0, b"refused ");
-    let at = dimacs::print(&mut line, word, wide(number));
-    let end = words::put(&mut line, at, b"\n");
-    io::write_all(STDOUT_FILENO, &line[..end]);
+    let len = report::refusal(&mut line, number);
+    io::write_all(STDOUT_FILENO, &line[..len]);
 }

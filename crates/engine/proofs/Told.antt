@@ -1,21 +1,27 @@
 -- What the numbers that the calls return tell their callers: 0 of `tpl_read` is for an accepted sheet and no other, 1 of `tpl_check` for a
 -- filling that solves its sheet and no other, 0 for one that does not, and a number of `tpl_spell` from 0 on is a text's length. So is one
--- of `tpl_line` a line's length, and 0 of `tpl_count` is for an accepted sheet and no other. Assumes nothing.
+-- of `tpl_line` a line's length, and 0 of `tpl_count` is for an accepted sheet and no other. After 0 of `tpl_reply` the lent buffer starts with
+-- a filling that clashes, and of a text that lists a satisfying assignment it returns 0. Assumes nothing.
 use mathlib.Core.Path.{_≡_, refl, sym, ap, _∙_}
-use mathlib.Core.List.{List, [], _∷_}
-use Prim.Native.Nat.{ℕ, zero, suc, _≤_}
+use mathlib.Core.List.{List, [], _∷_, _++_}
+use Prim.Native.Nat.{ℕ, zero, suc, _*_, _≤_}
 use native.Mathlib.Omega.{arith}
-use lib.IntN.{pos, negℤ}
-use lib.ListN.{length}
-use Rattle.model.specs.Calls.{Answer, refused, finished, reading, checking, spelling, counting, writing, sized}
+use lib.IntN.{ℤ, pos, negℤ}
+use lib.ListN.{length, take, drop}
+use Rattle.model.specs.Calls.{Answer, refused, finished, reading, checking, spelling, counting, writing, sized, replying, unnumbered}
 use Rattle.model.specs.Lists.{Bytes}
 use Rattle.model.specs.Sheet.{Accepted, sheetOf}
 use Rattle.model.specs.Word.{Substitution, Solves}
+use Rattle.model.specs.Filling.{encodeFilling}
+use Rattle.model.specs.Assignment.{Assignment, Satisfies, spelled}
+use Rattle.model.specs.Reply.{Lists}
 use Rattle.model.proofs.Known.{reading-accepted, reading-counts}
 use Rattle.model.proofs.Refusals.{refusal-numbers, checking-cases, spelling-refused, counting-refused, writing-refused}
 use Rattle.model.proofs.Operations.{sheet-finished, counting-counts, LineOf, writing-answered, Sized}
 use Rattle.model.proofs.Passed.{FillingOf, answered, passed-solves, solves-passed}
-use Rattle.engine.specs.Returned.{returned, returnedNumber}
+use Rattle.model.proofs.Replying.{replying-refused}
+use Rattle.model.proofs.Untrusted.{accepted-clashes, listed-accepted}
+use Rattle.engine.specs.Returned.{returned, returnedNumber, HandedOver}
 
 record Finished (a : Answer) : Type 0 where
   values : List ℕ
@@ -105,3 +111,26 @@ length-lined b line room n e = length-told (writing b line room) n (writing-refu
 
 pub is-line : (b : List ℕ) (line room n : ℕ) (e : returnedNumber (sized (writing b line room)) ≡ pos n) → LineOf b line room (length-lined b line room n e .text)
 is-line b line room n e = writing-answered b line room (length-lined b line room n e .is)
+
+-- `tpl_reply`: a call that answers no number returns the same
+pub same-returned : (a : Answer) → returned (unnumbered a) ≡ returned a
+same-returned (refused n) = refl
+same-returned (finished values) = refl
+
+module _ (b t before after : List ℕ) {r : ℤ} (y : Bytes b) (call : HandedOver (replying b t (length before)) before r after) where
+  abbrev reply : Answer
+  reply = replying b t (length before)
+
+  -- demand 3: "whatever a solver writes, a reply that is accepted hands over a filling that clashes"
+  pub zero-clash : r ≡ pos 0 → (checking b (take (9 * length (sheetOf b .limits)) after) ≡ finished (1 ∷ []))
+      × (drop (9 * length (sheetOf b .limits)) after ≡ drop (9 * length (sheetOf b .limits)) before)
+  zero-clash e =
+      let f = zero-finished reply (replying-refused b t (length before)) (sym (call .0) ∙ e) in
+      accepted-clashes b t before after (unnumbered reply) (refl, call .1) y (ap unnumbered (f .is))
+
+  -- "any assignment that satisfies them, and any text .. that lists it"
+  pub listed-zero : Accepted b → 9 * length (sheetOf b .limits) ≤ length before → (w : Assignment) → Satisfies (sheetOf b) w → Lists (sheetOf b) t w
+      → length t ≤ 65536 → (r ≡ pos 0) × (after ≡ encodeFilling (spelled (sheetOf b) w) ++ drop (9 * length (sheetOf b .limits)) before)
+  listed-zero ok enough w satisfies lists short =
+      let l = listed-accepted b t before after (unnumbered reply) (refl, call .1) y ok enough w satisfies lists short in
+      (call .0 ∙ sym (same-returned reply) ∙ ap returned (l .0), l .1)

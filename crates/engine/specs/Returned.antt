@@ -24,3 +24,7 @@ returnedNumber (finished (n ∷ others)) = pos n
 -- a call that writes the answer's values into a lent buffer, and returns their number
 abbrev pub Handed : Answer → List ℕ → ℤ → List ℕ → Type 0
 Handed a before r after = (r ≡ returnedNumber (sized a)) × (after ≡ written a before)
+
+-- a call that hands the answer's values over in a lent buffer, and returns 0
+abbrev pub HandedOver : Answer → List ℕ → ℤ → List ℕ → Type 0
+HandedOver a before r after = (r ≡ returned a) × (after ≡ written a before)

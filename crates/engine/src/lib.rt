@@ -4,8 +4,8 @@ ghost use mathlib.Core.Path.{_≡_};
 ghost use Prim.Native.Nat.{_<_};
 ghost use lib.IntN.{pos, negℤ};
 ghost use lib.ListN.{length};
-ghost use Rattle.model.specs.Calls.{reading, checking, spelling, counting, writing};
-ghost use Rattle.engine.specs.Returned.{returned, lentAfter, returnedNumber, Handed};
+ghost use Rattle.model.specs.Calls.{reading, checking, spelling, counting, writing, replying};
+ghost use Rattle.engine.specs.Returned.{returned, lentAfter, returnedNumber, Handed, HandedOver};
 
 // Reads a sheet of any bytes. Returns 0, with its four counts (letters, fields, pairs, rules) in `counts`; or minus
 // document 01's number of the first refusal, with `counts` as it was.
@@ -83,6 +83,19 @@ pub extern "C" fn tpl_line(sheet: &[u8], line: u64, text: &mut [u8]) -> i64
     match encoding::write_line(sheet, line as usize, text) {
         encoding::Writing::Length(n) => n as i64,
         encoding::Writing::Refused(refusal) => minus(encoding::number(refusal)),
+    }
+}
+
+// Reads a solver's reply to a sheet's clause file. Returns 0 for a reply that is accepted, with the filling that it spells, which clashes, in the
+// first 9 bytes of `filling` for each field and later bytes as they were; or minus document 01's number of the first refusal, with all bytes
+// as they were.
+#[no_mangle]
+pub extern "C" fn tpl_reply(sheet: &[u8], reply: &[u8], filling: &mut [u8]) -> i64
+    ensures { λ r. ⌜ HandedOver (replying (now (sheet .entry)) (now (reply .entry)) (length (now (filling .entry)))) (now (filling .entry)) r (now (filling .exit)) ⌝ }
+{
+    match decoding::read_reply(sheet, reply, filling) {
+        decoding::Reply::Accepted => 0,
+        decoding::Reply::Refused(refusal) => minus(decoding::number(refusal)),
     }
 }
 

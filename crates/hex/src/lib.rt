@@ -1,5 +1,5 @@
-// Text that gives bytes in hexadecimal, as the programs take their vectors: where a part of it ends,
-// and which bytes it gives.
+// Text that gives bytes in hexadecimal, as the programs take their vectors: where a part of it ends
+// and the next begins, and which bytes it gives.
 ghost use mathlib.Core.Path.{_≡_};
 ghost use Prim.Native.Nat.{_≤_};
 ghost use lib.ListN.{length, take};
@@ -20,6 +20,15 @@ pub fn find(text: &[u8], from: usize, x: u8) -> usize
         i += 1;
     }
     i
+}
+
+// The index after `at`, but none past the end of `text`.
+pub fn after(text: &[u8], at: usize) -> usize
+    requires { ⌜ at ≤ length (now text) ⌝ }
+    ensures { λ r. ⌜ at ≤ r ⌝ }
+    ensures { λ r. ⌜ r ≤ length (now (text .entry)) ⌝ }
+{
+    if at < text.len() { at + 1 } else { at }
 }
 
 // Puts the bytes that the hexadecimal digits of `text` spell at the front of `out`, as many as it

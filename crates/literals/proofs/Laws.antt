@@ -2,7 +2,7 @@
 use mathlib.Core.Path.{_≡_, refl, sym, ap, ap₂, _∙_, fun-ext}
 use mathlib.Core.Bool.{Bool, true, false}
 use mathlib.Core.List.{List, [], _∷_, _++_, map}
-use Prim.Native.Nat.{ℕ, zero, suc, _+_, _-_, _*_, _/_, _%_, _<_, _≤_}
+use Prim.Native.Nat.{ℕ, suc, _+_, _-_, _*_, _/_, _%_, _<_, _≤_}
 use native.Mathlib.Omega.{arith}
 use lib.Dec.{ltb}
 use lib.ListN.{length, getD, drop, replicate, length-map}
@@ -15,6 +15,7 @@ use Rattle.model.specs.Clause.{K, Term, yes, SomeValue, terms, holds, lacks, is
 use Rattle.model.specs.Numbering.{LocationIn, VariableIn, number}
 use Rattle.model.proofs.Lists.{at, by-test}
 use Rattle.model.proofs.Keeping.{map-map, length-from}
+use Rattle.model.proofs.Seams.{drop-replicate}
 use Rattle.model.proofs.Templates.{template-in}
 use Rattle.model.proofs.Small.{letters-few, fields-few, limit-small, cells-small}
 use Rattle.model.proofs.Valid.{CellIn, cells-in}
@@ -124,11 +125,6 @@ module _ (s : Sheet) (ok : InRange s) (p : ℕ) (h : p < length (s .equations)) 
       (λ e. absurd (other (outside (ltb-false i (length us) e))))
 
 -- Every value of a place: consecutive numbers, and 0 after them.
-zeros-left : (n m : ℕ) → n ≤ m → drop {A = ℕ} n (replicate m 0) ≡ replicate (m - n) 0
-zeros-left zero m h = let e : m - 0 ≡ m = omega arith in rw e
-zeros-left (suc n) zero h = absurd (omega arith)
-zeros-left (suc n) (suc m) h = let e : suc m - suc n ≡ m - n = omega arith in rw e (zeros-left n m (omega arith))
-
 pub some-nine : (s : Sheet) (f c first n : ℕ) → first ≡ number s (K f c 0) → n ≡ suc (blank s) → n ≤ 9 → map (λ k. 2 * (first + k)) (upTo n) ++ drop n (replicate 9 0) ≡ nine s (SomeValue f c)
 unfolding nine terms number
 some-nine s f c first n is e few =
@@ -137,5 +133,5 @@ some-nine s f c first n is e few =
     let same : (k : ℕ) → 2 * (first + k) ≡ termCode s (value k) = λ k. omega arith in
     ap₂ _++_
     (ap (λ (g : ℕ → ℕ). map g (upTo n)) (fun-ext same) ∙ sym (map-map (termCode s) value (upTo n)))
-    (zeros-left n 9 few ∙ ap (λ k. replicate (9 - k) 0) (sym l))
+    (drop-replicate n 9 0 few ∙ ap (λ k. replicate (9 - k) 0) (sym l))
     ∙ ap (λ k. map (termCode s) (map value (upTo k)) ++ replicate (9 - length (map value (upTo k))) 0) e

@@ -90,8 +90,11 @@ longer b k h n l = by-test (ltb n 10)
     let q = h (n / 10) (omega arith) in
     omega arith)
 
+pub decimal-short-three : (n : ℕ) → n ≤ 999 → length (decimal n) ≤ 3
+decimal-short-three = longer 99 2 (longer 9 1 (λ n h. rw (decimal-one n (omega arith)) (omega arith)))
+
 pub decimal-short-four : (n : ℕ) → n ≤ 9999 → length (decimal n) ≤ 4
-decimal-short-four = longer 999 3 (longer 99 2 (longer 9 1 (λ n h. rw (decimal-one n (omega arith)) (omega arith))))
+decimal-short-four = longer 999 3 decimal-short-three
 
 pub decimal-short : (n : ℕ) → n ≤ 99999 → length (decimal n) ≤ 5
 decimal-short = longer 9999 4 decimal-short-four

@@ -3,7 +3,7 @@
 -- the K clauses and spell it. Assumes nothing.
 use mathlib.Core.Path.{_≡_, refl, sym, ap, ap₂, subst, _∙_}
 use mathlib.Core.Bool.{Bool, true}
-use mathlib.Core.List.{List, [], _∷_}
+use mathlib.Core.List.{List, [], _∷_, map}
 use Prim.Native.Nat.{ℕ, zero, suc, _+_, _<_, _≤_}
 use native.Mathlib.Omega.{arith}
 use lib.Arith.{lt-of-le-ne}
@@ -11,16 +11,29 @@ use lib.Dec.{ltb, eqb}
 use lib.ListN.{length, getD}
 use lib.Seq.{ext-getD}
 use borrow.Author.Tests.{ltb-true, ltb-false, eqb-true, eqb-false, eq-eqb}
-use Rattle.model.specs.Lists.{any, All}
+use Rattle.model.specs.Lists.{any, all, from, upTo, All}
 use Rattle.model.specs.Sheet.{Sheet, limit}
 use Rattle.model.specs.Word.{Substitution, text, Legal}
 use Rattle.model.specs.Clause.{K, blank, fields, yes, terms}
+use Rattle.model.specs.Numbering.{number}
 use Rattle.model.specs.Assignment.{Assignment, trueValues, OneValue, held, upToBlank, spelled}
-use Rattle.model.proofs.Lists.{never, by-test, or-left, imply, implied, or-last}
-use Rattle.model.proofs.Keeping.{keep-one, any-out, any-in, map-from-at, length-map-from}
+use Rattle.model.specs.Reply.{blanksLast}
+use Rattle.model.proofs.Lists.{at, and-join, never, by-test, or-left, imply, implied, or-last}
+use Rattle.model.proofs.Keeping.{keep-in, below-in, keep-one, any-out, any-in, map-from-at, length-map-from}
 use Rattle.model.proofs.Named.{AtPlace}
 use Rattle.model.proofs.Values.{place-letter, place-blank}
 use Rattle.model.proofs.Terms.{Valuation, named, truth, Met, Reads}
+
+-- What a place holds is a letter or blank, whatever is true there.
+held-small : (s : Sheet) (w : Assignment) (f c : ℕ) → held s w f c ≤ blank s
+unfolding trueValues
+held-small s w f c =
+    first (trueValues s w f c) (keep-in (λ a. a ≤ blank s) (λ a. w (number s (K f c a))) (upTo (suc (blank s)))
+    (below-in _ (suc (blank s)) (λ a l e. omega arith)))
+  where
+    first : (xs : List ℕ) → All (λ a. a ≤ blank s) xs → getD xs 0 (blank s) ≤ blank s
+    first [] h = omega arith
+    first (x ∷ xs) h = at (λ a. a ≤ blank s) (x ∷ xs) 0 (blank s) h (omega arith)
 
 -- one place
 module _ (s : Sheet) (w : Assignment) (f c : ℕ) (at : AtPlace s (Met s (named s w)) f c) where
@@ -54,9 +67,6 @@ module _ (s : Sheet) (w : Assignment) (f c : ℕ) (at : AtPlace s (Met s (named 
   held-is : held s w f c ≡ some-true .0
   held-is = ap (λ (xs : List ℕ). getD xs 0 (blank s)) values-are
 
-  held-small : held s w f c ≤ blank s
-  held-small = let e = held-is in let l = some-true .1 in omega arith
-
   held-true : v (held s w f c) ≡ true
   held-true = ap v held-is ∙ some-true .2
 
@@ -64,7 +74,7 @@ module _ (s : Sheet) (w : Assignment) (f c : ℕ) (at : AtPlace s (Met s (named 
   held-only a k = by-test (eqb (held s w f c) a)
       (λ t. subst (λ z. v z ≡ true) (eqb-true (held s w f c) a t) held-true ∙ sym t)
       (λ t. by-test (v a)
-      (λ e. absurd (eqb-false (held s w f c) a t (same-true a (held s w f c) k held-small e held-true)))
+      (λ e. absurd (eqb-false (held s w f c) a t (same-true a (held s w f c) k (held-small s w f c) e held-true)))
       (λ e. e ∙ sym t))
 
   blank-next : suc c < limit s f → held s w f c ≡ blank s → named s w (K f (suc c) (blank s)) ≡ true
@@ -90,6 +100,21 @@ module _ (l : ℕ) (h : ℕ → ℕ) (most : ℕ) where
         (λ t. rw t (sym (blank-on (suc i) c (omega arith) (eqb-true (h c) l t))))
         (λ t. let q : c + suc i ≡ suc c + i = omega arith in rw (t, q) (text-at n (suc c) i (omega arith) (omega arith)))
 
+    -- no letter stands after a blank
+    only-blanks : (n c : ℕ) → suc c + n ≡ most → h c ≡ l → all (λ x. eqb x l) (map h (from (suc c) n)) ≡ true
+    unfolding all from
+    only-blanks zero c e q = refl
+    only-blanks (suc n) c e q =
+        let next = tail c (omega arith) q in
+        and-join (eq-eqb (h (suc c)) l next) (only-blanks n (suc c) (omega arith) next)
+
+    last-blanks : (n c : ℕ) → c + n ≡ most → blanksLast l (map h (from c n)) ≡ true
+    unfolding blanksLast from
+    last-blanks zero c e = refl
+    last-blanks (suc n) c e = by-test (eqb (h c) l)
+        (λ t. rw t (only-blanks n c (omega arith) (eqb-true (h c) l t)))
+        (λ t. rw t (last-blanks n (suc c) (omega arith)))
+
   text-short : (n c : ℕ) → length (upToBlank l h c n) ≤ n
   unfolding upToBlank
   text-short zero c = omega arith
@@ -104,36 +129,41 @@ module _ (l : ℕ) (h : ℕ → ℕ) (most : ℕ) where
       (λ t. rw t tt)
       (λ t. rw t (lt-of-le-ne (small c (omega arith)) (eqb-false (h c) l t), text-over small n (suc c) (omega arith)))
 
--- Met K clauses spell a legal substitution, and the K variables read as it.
-module _ (s : Sheet) (w : Assignment) (places : (f c : ℕ) → f < fields s → c < limit s f → AtPlace s (Met s (named s w)) f c) where
-  spelled-text : (f : ℕ) → f < fields s → text (spelled s w) f ≡ upToBlank (blank s) (held s w f) 0 (limit s f)
+-- An assignment spells a legal substitution.
+module _ (s : Sheet) (w : Assignment) where
+  pub spelled-text : (f : ℕ) → f < fields s → text (spelled s w) f ≡ upToBlank (blank s) (held s w f) 0 (limit s f)
   unfolding spelled
   spelled-text f k =
       let q : 0 + f ≡ f = omega arith in
       map-from-at (λ f. upToBlank (blank s) (held s w f) 0 (limit s f)) [] 0 (fields s) f k ∙ rw q
-
-  tail : (f : ℕ) → f < fields s → (c : ℕ) → suc c < limit s f → held s w f c ≡ blank s → held s w f (suc c) ≡ blank s
-  tail f k c l e =
-      let next = places f (suc c) k l in
-      eqb-true _ _ (sym (held-only s w f (suc c) next (blank s) (omega arith)) ∙ blank-next s w f c (places f c k (omega arith)) l e)
-
-  pub spelled-reads : Reads s (named s w) (spelled s w)
-  spelled-reads f c a k l m =
-      let q : 0 + c ≡ c = omega arith in
-      held-only s w f c (places f c k l) a m
-      ∙ ap (λ z. eqb z a) (sym (ap (λ (t : List ℕ). getD t c (blank s)) (spelled-text f k)
-      ∙ text-at (blank s) (held s w f) (limit s f) (tail f k) (limit s f) 0 c (omega arith) l
-      ∙ ap (held s w f) q))
 
   pub spelled-legal : Legal s (spelled s w)
   unfolding spelled
   spelled-legal = record {
     one-each = length-map-from (λ f. upToBlank (blank s) (held s w f) 0 (limit s f)) 0 (fields s);
     admits = λ f k. record {
-      over-letters = rw (spelled-text f k) (text-over (blank s) (held s w f) (limit s f) (λ c l. held-small s w f c (places f c k l)) (limit s f) 0 (omega arith));
+      over-letters = rw (spelled-text f k) (text-over (blank s) (held s w f) (limit s f) (λ c l. held-small s w f c) (limit s f) 0 (omega arith));
       no-longer = rw (spelled-text f k) (text-short (blank s) (held s w f) (limit s f) (limit s f) 0);
     };
   }
+
+-- Where the K clauses are met, the K variables read as it, and after a blank there are only blanks.
+module _ (s : Sheet) (w : Assignment) (places : (f c : ℕ) → f < fields s → c < limit s f → AtPlace s (Met s (named s w)) f c) where
+  tail : (f : ℕ) → f < fields s → (c : ℕ) → suc c < limit s f → held s w f c ≡ blank s → held s w f (suc c) ≡ blank s
+  tail f k c l e =
+      let next = places f (suc c) k l in
+      eqb-true _ _ (sym (held-only s w f (suc c) next (blank s) (omega arith)) ∙ blank-next s w f c (places f c k (omega arith)) l e)
+
+  pub blanks-last : (f : ℕ) → f < fields s → blanksLast (blank s) (map (held s w f) (upTo (limit s f))) ≡ true
+  blanks-last f k = last-blanks (blank s) (held s w f) (limit s f) (tail f k) (limit s f) 0 (omega arith)
+
+  pub spelled-reads : Reads s (named s w) (spelled s w)
+  spelled-reads f c a k l m =
+      let q : 0 + c ≡ c = omega arith in
+      held-only s w f c (places f c k l) a m
+      ∙ ap (λ z. eqb z a) (sym (ap (λ (t : List ℕ). getD t c (blank s)) (spelled-text s w f k)
+      ∙ text-at (blank s) (held s w f) (limit s f) (tail f k) (limit s f) 0 c (omega arith) l
+      ∙ ap (held s w f) q))
 
 -- What a legal substitution has at a place: a letter or blank, and after a blank a blank.
 module _ (s : Sheet) (g : Substitution) (legal : Legal s g) (f c : ℕ) (h : f < fields s) where
@@ -198,4 +228,4 @@ module _ (s : Sheet) (v : Valuation) (g h : Substitution) (lg : Legal s g) (lh :
 pub reads-spelled : (s : Sheet) (w : Assignment) (g : Substitution) → Legal s g → Reads s (named s w) g → spelled s w ≡ g
 reads-spelled s w g legal reads =
     let at = places-met s (named s w) g legal reads in
-    reads-unique s (named s w) (spelled s w) g (spelled-legal s w at) legal (spelled-reads s w at) reads
+    reads-unique s (named s w) (spelled s w) g (spelled-legal s w) legal (spelled-reads s w at) reads

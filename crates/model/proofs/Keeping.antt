@@ -1,6 +1,6 @@
 -- Laws of specs/Lists on ranges, on what is written of each element, on what a test keeps, and on totals. Assumes nothing.
 use mathlib.Core.Path.{_≡_, refl, sym, ap, ap₂, subst, _∙_}
-use mathlib.Core.Bool.{Bool, true, false}
+use mathlib.Core.Bool.{Bool, true, false, _&&_}
 use mathlib.Core.List.{List, [], _∷_, _++_, map, append-assoc}
 use Prim.Native.Nat.{ℕ, zero, suc, _+_, _-_, _*_, _<_, _≤_}
 use native.Mathlib.Nat.{suc-mul}
@@ -11,8 +11,8 @@ use lib.Dec.{eqb}
 use lib.ListN.{length, getD, length-append, length-map, List·getD-append}
 use lib.Seq.{getD-append-add}
 use borrow.Author.Tests.{eqb-true, eqb-false}
-use Rattle.model.specs.Lists.{each, from, upTo, any, when, keep, total, All}
-use Rattle.model.proofs.Lists.{never, by-test, or-left, or-right, append-in, append-out, map-in, each-in, each-out, each-same, below-out, from-more}
+use Rattle.model.specs.Lists.{each, from, upTo, all, any, when, keep, total, All}
+use Rattle.model.proofs.Lists.{never, by-test, or-left, or-right, append-in, append-out, map-in, each-in, each-out, each-same, below-out, from-more, all-out, all-in}
 
 -- P of every element of a list of one, of a list that a test may drop, of what a test keeps
 module _ {A : Type 0} (P : A → Type 0) where
@@ -144,6 +144,11 @@ each-when b f (x ∷ xs) =
 
 -- What a test keeps.
 module _ {A : Type 0} (t : A → Bool) where
+  pub keep-short : (xs : List A) → length (keep t xs) ≤ length xs
+  unfolding keep
+  keep-short [] = omega arith
+  keep-short (x ∷ xs) = let h = keep-short xs in by-test (t x) (λ e. rw e (omega arith)) (λ e. rw e (omega arith))
+
   pub keep-append : (xs ys : List A) → keep t (xs ++ ys) ≡ keep t xs ++ keep t ys
   unfolding keep
   keep-append [] ys = refl
@@ -191,7 +196,7 @@ module _ {A : Type 0} (t : A → Bool) where
   keep-same u [] h = refl
   keep-same u (x ∷ xs) h = ap₂ (λ b z. when b (x ∷ []) ++ z) (h .0) (keep-same u xs (h .1))
 
--- what two tests keep of the numbers below n, and two functions make of them, where they agree
+-- what two tests keep of the numbers below n, what two functions make of them, and whether two tests pass at all, where they agree
 pub keep-below : (t u : ℕ → Bool) (n : ℕ) → ((i : ℕ) → i < n → t i ≡ u i) → keep t (upTo n) ≡ keep u (upTo n)
 keep-below t u n e = keep-same t u (upTo n) (below-in (λ i. t i ≡ u i) n e)
 
@@ -202,6 +207,23 @@ map-below f h n e = same-all (upTo n) (below-in (λ i. f i ≡ h i) n e)
     same-all : (xs : List ℕ) → All (λ i. f i ≡ h i) xs → map f xs ≡ map h xs
     same-all [] k = refl
     same-all (x ∷ xs) k = ap₂ _∷_ (k .0) (same-all xs (k .1))
+
+pub all-same : (t u : ℕ → Bool) (n : ℕ) → ((i : ℕ) → i < n → t i ≡ u i) → all t (upTo n) ≡ all u (upTo n)
+unfolding All all
+all-same t u n e = same-all (upTo n) (below-in (λ i. t i ≡ u i) n e)
+  where
+    same-all : (xs : List ℕ) → All (λ i. t i ≡ u i) xs → all t xs ≡ all u xs
+    same-all [] k = refl
+    same-all (x ∷ xs) k = ap₂ _&&_ (k .0) (same-all xs (k .1))
+
+-- whether a test passes at every number below n
+pub all-below : (t : ℕ → Bool) (n : ℕ) → ((i : ℕ) → i < n → t i ≡ true) → all t (upTo n) ≡ true
+all-below t n h = all-in t (upTo n) (below-in (λ i. t i ≡ true) n h)
+
+pub all-not : (t : ℕ → Bool) (n i : ℕ) → i < n → t i ≡ false → all t (upTo n) ≡ false
+all-not t n i h e = by-test (all t (upTo n))
+    (λ p. never (sym e ∙ below-out (λ i. t i ≡ true) n (all-out t (upTo n) p) i h))
+    (λ p. p)
 
 -- what is written of the numbers below n, where two ways of writing agree, or agree in what a test keeps
 pub loop-same : {A : Type 0} (f h : ℕ → List A) (n : ℕ) → ((i : ℕ) → i < n → f i ≡ h i) → each (upTo n) f ≡ each (upTo n) h

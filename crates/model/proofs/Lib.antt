@@ -2,6 +2,7 @@ pub mod ClauseFiles
 pub mod Assigned
 pub mod Computed
 pub mod Answers
+pub mod DamagedReplies
 pub mod Examples
 pub mod Lists
 pub mod Keeping
@@ -46,3 +47,8 @@ pub mod TClauses
 pub mod Solutions
 pub mod Satisfying
 pub mod Satisfiable
+pub mod Splitting
+pub mod Decoded
+pub mod Replying
+pub mod Untrusted
+pub mod Listings

@@ -44,7 +44,7 @@ clause-numbers s q = map-in (λ z. z ≡ pos 0 → ⊥) (signedNumber s) (litera
     one (isnt x) e = let n = positive s x in let z = ap natAbs e in let m = abs-neg (number s x) in omega arith
 
 -- What is read of the figures of a number: nothing before its end, and then the number.
-figures-read : (minus : Bool) (n : ℕ) (xs ys : List ℕ) → All Figure xs → numbersFrom minus n (xs ++ ys) ≡ numbersFrom minus (valueFrom n xs) ys
+pub figures-read : (minus : Bool) (n : ℕ) (xs ys : List ℕ) → All Figure xs → numbersFrom minus n (xs ++ ys) ≡ numbersFrom minus (valueFrom n xs) ys
 unfolding All numbersFrom valueFrom
 figures-read minus n [] ys h = refl
 figures-read minus n (x ∷ xs) ys h =
@@ -63,7 +63,7 @@ unfolding numbersFrom
 literal-read (pos n) ys = ap (numbersFrom false 0) (append-assoc (decimal n) (32 ∷ []) ys) ∙ decimal-read false n ys
 literal-read (negsuc n) ys = ap (numbersFrom true 0) (append-assoc (decimal (suc n)) (32 ∷ []) ys) ∙ decimal-read true (suc n) ys
 
-literals-read : (zs : List ℤ) (ys : List ℕ) → numbersFrom false 0 (each zs literalBytes ++ ys) ≡ zs ++ numbersFrom false 0 ys
+pub literals-read : (zs : List ℤ) (ys : List ℕ) → numbersFrom false 0 (each zs literalBytes ++ ys) ≡ zs ++ numbersFrom false 0 ys
 unfolding each
 literals-read [] ys = refl
 literals-read (z ∷ zs) ys =

@@ -13,11 +13,11 @@ use Rattle.model.specs.Word.{Substitution}
 use Rattle.model.specs.Filling.{filling}
 use Rattle.model.specs.Clause.{ids}
 use Rattle.model.specs.Dimacs.{line}
-use Rattle.model.specs.Calls.{Answer, refused, finished, ofSheet, require, ofFilling, readingOf, reading, spelledText, spellingOf, spelling, sized, written, clauseCounts, counting, writingOf, writing}
+use Rattle.model.specs.Calls.{Answer, refused, finished, ofSheet, require, ofFilling, readingOf, reading, spelledText, spellingOf, spelling, sized, written, clauseCounts, counting, writingOf, writing, HandsOver}
 use Rattle.model.proofs.Reading.{read-prefix}
 use Rattle.model.proofs.Known.{accepted-sheet}
 
-not-finished : {P : Type 0} {n : ℕ} {vs : List ℕ} → refused n ≡ finished vs → P
+pub not-finished : {P : Type 0} {n : ℕ} {vs : List ℕ} → refused n ≡ finished vs → P
 not-finished e = let z : _≡_ {A = ℕ} 0 1 = cc in absurd (omega arith)
 
 -- a sheet that is refused is refused alike by every operation
@@ -172,3 +172,10 @@ leaves-all n buffer e = rw e (refl, refl)
 
 pub leaves-text : {a : Answer} (text buffer : List ℕ) → a ≡ finished text → (finished (length text ∷ []) ≡ sized a) × ((text ++ drop (length text) buffer) ≡ written a buffer)
 leaves-text text buffer e = rw e (refl, refl)
+
+-- What a call that hands over leaves, by its answer.
+pub keeps-all : {a : Answer} (n : ℕ) (buffer : List ℕ) → a ≡ refused n → HandsOver a buffer (refused n) buffer
+keeps-all n buffer e = rw e (refl, refl)
+
+pub hands-values : {a : Answer} (m buffer : List ℕ) → a ≡ finished m → HandsOver a buffer (finished []) (m ++ drop (length m) buffer)
+hands-values m buffer e = rw e (refl, refl)

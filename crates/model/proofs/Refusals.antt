@@ -129,19 +129,19 @@ filling-numbers s m n e = by-step (filling s m) (of-filling s m) e
     by-step (fault k) h e = let z : k ≡ n = cc in omega arith
 
 -- An answer that is finished, or whose refusal's number is not 0: after a test, and after reading a sheet.
-abbrev NotZero : Answer → Type 0
+abbrev pub NotZero : Answer → Type 0
 NotZero (refused n) = 1 ≤ n
 NotZero (finished values) = Unit
 
-not-zero : (a : Answer) → NotZero a → (n : ℕ) → a ≡ refused n → 1 ≤ n
+pub not-zero : (a : Answer) → NotZero a → (n : ℕ) → a ≡ refused n → 1 ≤ n
 not-zero (refused k) h n e = let z : k ≡ n = cc in omega arith
 not-zero (finished values) h n e = let z : _≡_ {A = ℕ} 0 1 = cc in absurd (omega arith)
 
-not-zero-require : (ok : Bool) (k : ℕ) (go : Answer) → 1 ≤ k → NotZero go → NotZero (require ok k go)
+pub not-zero-require : (ok : Bool) (k : ℕ) (go : Answer) → 1 ≤ k → NotZero go → NotZero (require ok k go)
 not-zero-require true k go h f = f
 not-zero-require false k go h f = h
 
-not-zero-sheet : (b : List ℕ) (go : Sheet → Answer) → ((s : Sheet) → NotZero (go s)) → NotZero (ofSheet (read b) go)
+pub not-zero-sheet : (b : List ℕ) (go : Sheet → Answer) → ((s : Sheet) → NotZero (go s)) → NotZero (ofSheet (read b) go)
 unfolding reading
 not-zero-sheet b go f = by-sheet (read b) (λ k h. refusal-numbers b k h .0)
   where

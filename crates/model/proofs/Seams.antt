@@ -4,7 +4,7 @@ use mathlib.Core.List.{List, [], _∷_, _++_, append-assoc, append-nil}
 use Prim.Native.Nat.{ℕ, suc, _+_, _-_, _<_, _≤_}
 use native.Mathlib.Numerals.{add-one}
 use native.Mathlib.Omega.{arith}
-use lib.ListN.{length, take, drop, getD, set, length-append, length-drop, take-append-drop}
+use lib.ListN.{length, take, drop, getD, set, replicate, length-append, length-drop, length-replicate, take-append-drop, replicate-append-replicate}
 use lib.Seq.{take-all, drop-length, drop-cons, set-at, append-snoc, take-at, drop-at, drop-drop, drop-append-add, length-take-le, take-length, paste, set-split}
 use borrow.Rule.Slice.PartMut.{putMid}
 use Rattle.model.specs.Lists.{placed, Puts}
@@ -100,3 +100,14 @@ more {s} {b} {start} {p} {at} q b′ at′ w f k h =
       holds = rw (f .1, w .holds, w .past) (placed-placed s start p q h);
       long = k ∙ w .long;
     }
+
+-- A list of equal elements in two parts.
+module _ (n m a : ℕ) (h : n ≤ m) where
+  two-parts : replicate m a ≡ replicate n a ++ replicate (m - n) a
+  two-parts = let e : m ≡ n + (m - n) = omega arith in ap (λ k. replicate k a) e ∙ sym (replicate-append-replicate n (m - n) a)
+
+  pub take-replicate : take n (replicate m a) ≡ replicate n a
+  take-replicate = ap (take n) two-parts ∙ take-at (replicate n a) (replicate (m - n) a) n (length-replicate n a)
+
+  pub drop-replicate : drop n (replicate m a) ≡ replicate (m - n) a
+  drop-replicate = ap (drop n) two-parts ∙ drop-at (replicate n a) (replicate (m - n) a) n (length-replicate n a)

@@ -60,7 +60,7 @@ module _ (s : Sheet) (ok : WellFormed s) where
   pub met-solves : (w : Assignment) → Every s (Met s (named s w)) → Solves s (spelled s w)
   met-solves w met =
       let g : Substitution = spelled s w in
-      let legal : Legal s g = spelled-legal s w (met .places) in
+      let legal : Legal s g = spelled-legal s w in
       let reads : Reads s (named s w) g = spelled-reads s w (met .places) in
       record {
         is-legal = legal;

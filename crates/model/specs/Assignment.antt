@@ -18,6 +18,10 @@ use Rattle.model.specs.Dimacs.{line, numbers}
 abbrev pub Assignment : Type 0
 Assignment = ℕ → Bool
 
+-- An assignment held as marks, one for each number from 0 on: true where the mark is 1.
+unfoldable pub truth : List ℕ → Assignment
+truth marks n = eqb (getD marks n 0) 1
+
 -- "a true literal: a number whose variable is true, or a minus number whose variable is false". The 0 that ends a line is no literal.
 abbrev pub trueNumber : Assignment → ℤ → Bool
 trueNumber w (pos zero) = false

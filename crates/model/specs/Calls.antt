@@ -2,17 +2,19 @@
 use mathlib.Core.Path.{_≡_}
 use mathlib.Core.Bool.{Bool}
 use mathlib.Core.List.{List, [], _∷_, _++_}
-use Prim.Native.Nat.{ℕ}
+use Prim.Native.Nat.{ℕ, _*_}
 use lib.Dec.{leb, ltb}
 use lib.ListN.{length, drop}
-use Rattle.model.specs.Lists.{pick}
+use Rattle.model.specs.Lists.{pick, all}
 use Rattle.model.specs.Sheet as sheet
 use Rattle.model.specs.Sheet.{Sheet, Step, got, fault, Counts, countsOf, Reading, read, template}
 use Rattle.model.specs.Word.{Substitution, letterBytes, spell, solves}
-use Rattle.model.specs.Filling.{filling}
+use Rattle.model.specs.Filling.{filling, encodeFilling}
 use Rattle.model.specs.Clause.{ids}
 use Rattle.model.specs.Numbering.{variables}
 use Rattle.model.specs.Dimacs.{line, allowance}
+use Rattle.model.specs.Assignment.{Assignment, spelled}
+use Rattle.model.specs.Reply.{lines, lineEnded, known, oneStatus, given, closed, inCount, givenOnce, assigned, allSingle, noneAfterBlank}
 
 -- "A refusal returns its number only"; a call that finishes answers its values.
 pub data Answer : Type 0 where
@@ -97,3 +99,45 @@ writingOf s n room =
 
 unfoldable pub writing : List ℕ → ℕ → ℕ → Answer
 writing b n room = ofSheet (read b) (λ s. writingOf s n room)
+
+-- Reading a reply: "27; 30 ..; then each test over the whole text in number order." 31 to 36 are of the text and the number
+-- of variables, 37 to 39 of the assignment that it lists.
+unfoldable pub formed : ℕ → List ℕ → Answer → Answer
+formed count t go =
+    require (lineEnded t) 31
+    (require (all known (lines t)) 32
+    (require (oneStatus (lines t)) 33
+    (require (closed (given t)) 34
+    (require (inCount count (given t)) 35
+    (require (givenOnce (given t)) 36
+    go)))))
+
+-- "39 the filling does not clash"; the values are the filling's bytes.
+unfoldable pub decoding : Sheet → Assignment → Answer
+decoding s w =
+    require (allSingle s w) 37
+    (require (noneAfterBlank s w) 38
+    (require (solves s (spelled s w)) 39
+    (finished (encodeFilling (spelled s w)))))
+
+-- "30 over 65,536 bytes"
+abbrev pub inSize : List ℕ → Bool
+inSize t = leb (length t) 65536
+
+unfoldable pub replyingOf : Sheet → List ℕ → ℕ → Answer
+replyingOf s t room =
+    require (leb (9 * length (s .limits)) room) 27
+    (require (inSize t) 30
+    (formed (length (variables s)) t
+    (decoding s (assigned t))))
+
+unfoldable pub replying : List ℕ → List ℕ → ℕ → Answer
+replying b t room = ofSheet (read b) (λ s. replyingOf s t room)
+
+-- A call that hands its values over and answers no number: "Accepted, the filling fills the first 9 × V bytes and no more."
+abbrev pub unnumbered : Answer → Answer
+unnumbered (refused n) = refused n
+unnumbered (finished values) = finished []
+
+abbrev pub HandsOver : Answer → List ℕ → Answer → List ℕ → Type 0
+HandsOver a before answer after = (answer ≡ unnumbered a) × (after ≡ written a before)

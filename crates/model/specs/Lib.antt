@@ -8,6 +8,7 @@ pub mod Clause
 pub mod Numbering
 pub mod Dimacs
 pub mod Assignment
+pub mod Reply
 pub mod Count
-pub mod Report
 pub mod Calls
+pub mod Report

@@ -28,6 +28,11 @@ same [] (y ∷ ys) = false
 same (x ∷ xs) [] = false
 same (x ∷ xs) (y ∷ ys) = eqb x y && same xs ys
 
+-- how many elements come before the first that is x
+unfoldable pub span : ℕ → List ℕ → ℕ
+span x [] = 0
+span x (y ∷ ys) = pick (eqb y x) 0 (suc (span x ys))
+
 -- f of each element, in order, one after another
 unfoldable pub each : {A B : Type 0} → List A → (A → List B) → List B
 each [] f = []

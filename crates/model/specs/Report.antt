@@ -1,4 +1,4 @@
--- The text that the search and reply programs print for a clash. "prints `clash`, `field 0=A`, `pair 0=A`: each field's number and text,
+-- The text that the programs print: for a clash the search and reply programs, for a refusal each. "prints `clash`, `field 0=A`, `pair 0=A`: each field's number and text,
 -- each pair's number and text." Every line ends in 0x0A. Fields and pairs are few, so that a number is one digit.
 use mathlib.Core.List.{List, [], _∷_, _++_}
 use Prim.Native.Nat.{ℕ, _+_, _*_}
@@ -6,6 +6,9 @@ use lib.ListN.{length}
 use Rattle.model.specs.Lists.{each, upTo}
 use Rattle.model.specs.Sheet.{Sheet, equation}
 use Rattle.model.specs.Word.{Substitution, text, spell, letterBytes}
+use Rattle.model.specs.Filling.{filling, substitutionIn}
+use Rattle.model.specs.Dimacs.{decimal}
+use Rattle.model.specs.Calls.{Answer, refused, finished}
 
 -- "clash", and a line end
 abbrev pub clashLine : List ℕ
@@ -41,3 +44,12 @@ mostPairLines = 4 * (5 + 2 + 24 + 1)
 
 abbrev pub mostReport : ℕ
 mostReport = length clashLine + mostFieldLines + mostPairLines
+
+-- "On a refusal each program prints only `refused`, a space and the number."
+unfoldable pub refusedLine : ℕ → List ℕ
+refusedLine n = (114 ∷ 101 ∷ 102 ∷ 117 ∷ 115 ∷ 101 ∷ 100 ∷ 32 ∷ []) ++ (decimal n ++ (10 ∷ []))
+
+-- What is printed for the answer of a call that hands a filling over.
+abbrev pub printed : Sheet → Answer → List ℕ
+printed s (refused n) = refusedLine n
+printed s (finished m) = report s (substitutionIn (filling s m))

@@ -7,11 +7,13 @@ use lib.ListN.{length, length-append, length-map}
 use Rattle.model.specs.Lists.{each, upTo, Puts, Bytes}
 use Rattle.model.specs.Sheet.{got, rest, Accepted, sheetOf, equation, letterOf}
 use Rattle.model.specs.Word.{text, letterBytes, spell}
+use Rattle.model.specs.Dimacs.{decimal}
 use Rattle.model.specs.Filling.{filling}
-use Rattle.model.specs.Report.{line, fieldName, fieldLine, pairName, pairLine}
+use Rattle.model.specs.Report.{refusedLine, line, fieldName, fieldLine, pairName, pairLine}
 use Rattle.model.specs.Calls.{finished, checking}
 use Rattle.model.proofs.Lists.{each-none, each-more}
 use Rattle.model.proofs.Keeping.{each-short}
+use Rattle.model.proofs.Figures.{decimal-short-three}
 use Rattle.model.proofs.Seams.{Written, nothing, more}
 use Rattle.model.proofs.Templates.{template-room}
 use Rattle.model.proofs.Passed.{answered, filling-read}
@@ -64,3 +66,8 @@ pub clash-ready : (b m : List ℕ) → Bytes b → {vs : List ℕ} → checking 
 clash-ready b m y e =
     let a = answered b m y e in
     (a .is-filling .accepted, ap rest (filling-read b m y (a .substitution) (a .is-filling)))
+
+-- the line of a refusal, whose number is a byte
+pub refused-short : (n : ℕ) → n ≤ 999 → length (refusedLine n) ≤ 12
+unfolding refusedLine
+refused-short n h = let d = decimal-short-three n h in let e = length-append (decimal n) (10 ∷ []) in omega arith

@@ -1,4 +1,5 @@
-// The report of a clash: the text that the search and reply programs print, `clash`, a line for each field, a line for each pair.
+// The text that the programs print: the report of a clash, which is `clash`, a line for each field and a line for each pair; and the line of
+// a refusal.
 use fields::Substitution;
 use scan::WIDEST;
 use scan::wide;
@@ -10,7 +11,7 @@ ghost use Rattle.model.specs.Lists.{each, upTo, All, Puts};
 ghost use Rattle.model.specs.Sheet.{Accepted, sheetOf};
 ghost use Rattle.model.specs.Word.{letterBytes};
 ghost use Rattle.model.specs.Filling.{filling, substitutionIn};
-ghost use Rattle.model.specs.Report.{fieldLine, pairLine, mostFieldLines, mostPairLines, mostReport};
+ghost use Rattle.model.specs.Report.{refusedLine, fieldLine, pairLine, mostFieldLines, mostPairLines, mostReport};
 ghost use Rattle.model.specs.Report as model;
 ghost use Rattle.model.specs.Calls.{finished, checking};
 ghost use Rattle.fields.specs.Memory.{Held, meaning};
@@ -71,4 +72,14 @@ pub fn write(sheet: &[u8], bytes: &[u8], buf: &mut [u8]) -> usize
     let a = words::put(buf, 0, b"clash\n");
     let b = field_lines(buf, a, sheet, g);
     pair_lines(buf, b, sheet, g)
+}
+
+// The line of a refusal with that number, at the front of a buffer. Returns its length; later bytes are as they were.
+pub fn refusal(buf: &mut [u8], number: u8) -> usize
+    requires { ⌜ 12 ≤ length (now buf) ⌝ }
+    ensures { λ r. ⌜ Puts (now (buf .entry)) 0 (refusedLine number) (now (buf .exit)) r × (r ≤ 12) ⌝ }
+{
+    let a = words::put(buf, 0, b"refused ");
+    let b = dimacs::print(buf, a, wide(number));
+    words::put(buf, b, b"\n")
 }

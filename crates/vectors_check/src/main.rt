@@ -5,6 +5,7 @@
 // hexadecimal with spaces between their parts. For a spelling there follow a semicolon, the pair and
 // the side, eight bytes each, and the length of the lent buffer, one byte. A line with no colon is a
 // heading and is printed as it is. The file stdout has document 01's answers.
+use hex::after;
 use hex::decode;
 use hex::find;
 use libc::STDIN_FILENO;
@@ -16,7 +17,6 @@ use substitution::Spelling;
 ghost use mathlib.Core.Path.{_≡_};
 ghost use mathlib.Core.List.{[], _∷_};
 ghost use Prim.Native.Nat.{_+_, _≤_};
-ghost use lib.ListN.{length};
 ghost use Rattle.model.specs.Calls.{finished, checking};
 
 // Room for a sheet's or a filling's bytes. Document 01 accepts none of more than 159; some vectors
@@ -76,15 +76,6 @@ fn show_vector(text: &[u8]) {
     } else {
         show_spell(&sheet[..n], &filling[..m], &text[second..]);
     }
-}
-
-// The index after `at`, but none past the end of `text`.
-fn after(text: &[u8], at: usize) -> usize
-    requires { ⌜ at ≤ length (now text) ⌝ }
-    ensures { λ r. ⌜ at ≤ r ⌝ }
-    ensures { λ r. ⌜ r ≤ length (now (text .entry)) ⌝ }
-{
-    if at < text.len() { at + 1 } else { at }
 }
 
 // Prints what checking a filling answers, and the report of a clash.

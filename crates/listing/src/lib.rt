@@ -1,0 +1,316 @@
+// The text of a solver's reply: its lines, its numbers, and a mark for each number that it lists. Nothing here knows of a sheet; the text's
+// numbers are judged by the lent marks, one for each number from 0 on.
+ghost use mathlib.Core.Path.{_≡_};
+ghost use mathlib.Core.Bool.{_||_};
+ghost use Prim.Native.Nat.{_+_, _<_, _≤_};
+ghost use lib.ListN.{length, drop, replicate};
+ghost use Rattle.model.specs.Lists.{pick, span};
+ghost use Rattle.model.specs.Dimacs.{valueOf};
+ghost use Rattle.model.specs.Reply.{magnitude};
+ghost use Rattle.listing.specs.Tally.{markOf, noted, marked, ReadValues, ReadLine, ReadLines};
+ghost use Rattle.listing.specs.Answer.{numberOf, Said, Form};
+
+// The line end, and the space between numbers.
+const LINE_END: u8 = 10;
+
+const SPACE: u8 = 32;
+
+// The marks of a number: not listed; listed as it is; listed with a minus.
+const UNLISTED: u8 = 0;
+
+pub const PLUS: u8 = 1;
+
+const MINUS: u8 = 2;
+
+// A piece of a v line as a number: 0 or more, or with a minus; or no number.
+pub enum Piece {
+    Plus(usize),
+    Minus(usize),
+    Unknown,
+}
+
+// What was met so far: an s line, a second one, a v line before any s line, a number after a 0, a number that has no mark, a number met
+// before.
+pub struct Tally {
+    pub status: bool,
+    pub again: bool,
+    pub early: bool,
+    pub after: bool,
+    pub above: bool,
+    pub twice: bool,
+}
+
+// What lines come to, or that one of them has no known form.
+pub enum Lines {
+    Known(Tally),
+    Unknown,
+}
+
+// What a text is refused for, by document 01's numbers 31 to 36.
+pub enum Fault {
+    End,
+    Line,
+    Status,
+    Closing,
+    Above,
+    Twice,
+}
+
+// Whether a text lists an assignment.
+pub enum Listing {
+    Listed,
+    Refused(Fault),
+}
+
+// Document 01's number of a fault.
+pub fn number(fault: Fault) -> u8
+    ensures { λ r. ⌜ r ≡ numberOf fault ⌝ }
+{
+    match fault {
+        Fault::End => 31,
+        Fault::Line => 32,
+        Fault::Status => 33,
+        Fault::Closing => 34,
+        Fault::Above => 35,
+        Fault::Twice => 36,
+    }
+}
+
+// The offset of the first end byte at or after an offset, or the length where there is none.
+fn stop(bytes: &[u8], at: usize, end: u8) -> usize
+    requires { ⌜ at ≤ length (now bytes) ⌝ }
+    ensures { λ r. ⌜ (r ≡ at + span end (drop at (now (bytes .entry)))) × (at ≤ r) × (r ≤ length (now (bytes .entry))) ⌝ }
+{
+    let mut i = at;
+    while i < bytes.len() {
+        if bytes[i] == end {
+            return i;
+        }
+        i += 1;
+    }
+    i
+}
+
+// The value of 1 to 9 digits, the first not 0; of other bytes 0.
+fn value(digits: &[u8]) -> usize
+    ensures { λ r. ⌜ (r ≡ pick (magnitude (now (digits .entry))) (valueOf (now (digits .entry))) 0) ⌝ }
+{
+    let n = digits.len();
+    if n == 0 || n > 9 {
+        return 0;
+    }
+    if digits[0] == b'0' {
+        return 0;
+    }
+    let mut sum: usize = 0;
+    let mut i: usize = 0;
+    while i < n {
+        let x = digits[i];
+        if x < b'0' || x > b'9' {
+            return 0;
+        }
+        sum = sum * 10 + ((x - b'0') as usize);
+        i += 1;
+    }
+    sum
+}
+
+// The number that a piece of a v line says.
+fn read_number(piece: &[u8]) -> Piece
+    ensures { λ r. ⌜ Said (now (piece .entry)) r ⌝ }
+{
+    let len = piece.len();
+    if len == 0 {
+        return Piece::Unknown;
+    }
+    if piece[0] == b'-' {
+        let n = value(&piece[1..]);
+        if n == 0 {
+            return Piece::Unknown;
+        }
+        return Piece::Minus(n);
+    }
+    if piece[0] == b'0' && len == 1 {
+        return Piece::Plus(0);
+    }
+    let n = value(piece);
+    if n == 0 {
+        return Piece::Unknown;
+    }
+    Piece::Plus(n)
+}
+
+// One of two conditions, as a function: a caller that wrote `||` would branch, and its proof would need a case for each way.
+fn either(a: bool, b: bool) -> bool
+    ensures { λ r. ⌜ r ≡ (a || b) ⌝ }
+{
+    if a {
+        return true;
+    }
+    b
+}
+
+// The mark of a number that had the mark `was`: once listed without a minus it stays so.
+fn mark(was: u8, plus: bool) -> u8
+    ensures { λ r. ⌜ r ≡ markOf was plus ⌝ }
+{
+    if plus {
+        return PLUS;
+    }
+    if was == UNLISTED {
+        return MINUS;
+    }
+    was
+}
+
+// Notes a number, with a minus or not, and marks it.
+fn note(marks: &mut [u8], tally: Tally, n: usize, plus: bool) -> Tally
+    requires { ⌜ 0 < length (now marks) ⌝ }
+    ensures { λ r. ⌜ (r ≡ noted (now (marks .entry)) tally n) × (now (marks .exit) ≡ marked (now (marks .entry)) n plus) ⌝ }
+{
+    let after = either(tally.after, marks[0] != UNLISTED);
+    if n >= marks.len() {
+        return Tally {
+            status: tally.status,
+            again: tally.again,
+            early: tally.early,
+            after: after,
+            above: true,
+            twice: tally.twice,
+        };
+    }
+    let was = marks[n];
+    let now = mark(was, plus);
+    marks[n] = now;
+    Tally {
+        status: tally.status,
+        again: tally.again,
+        early: tally.early,
+        after: after,
+        above: tally.above,
+        twice: either(tally.twice, was != UNLISTED),
+    }
+}
+
+// Notes the numbers of a v line.
+fn read_values(marks: &mut [u8], tally: Tally, line: &[u8]) -> Lines
+    requires { ⌜ (0 < length (now marks)) × (length (now line) ≤ 65536) ⌝ }
+    ensures { λ r. ⌜ ReadValues (now (marks .entry)) tally (now (line .entry)) r (now (marks .exit)) ⌝ }
+{
+    let mut sum = tally;
+    let mut at: usize = 2;
+    while at <= line.len() {
+        let end = stop(line, at, SPACE);
+        match read_number(&line[at..end]) {
+            Piece::Unknown => {
+                return Lines::Unknown;
+            }
+            Piece::Plus(n) => {
+                sum = note(marks, sum, n, true);
+            }
+            Piece::Minus(n) => {
+                sum = note(marks, sum, n, false);
+            }
+        }
+        at = end + 1;
+    }
+    Lines::Known(sum)
+}
+
+// Notes a line.
+fn read_line(marks: &mut [u8], tally: Tally, line: &[u8]) -> Lines
+    requires { ⌜ (0 < length (now marks)) × (length (now line) ≤ 65536) ⌝ }
+    ensures { λ r. ⌜ ReadLine (now (marks .entry)) tally (now (line .entry)) r (now (marks .exit)) ⌝ }
+{
+    if words::same(line, b"s SATISFIABLE") {
+        return Lines::Known(Tally {
+            status: true,
+            again: either(tally.again, tally.status),
+            early: tally.early,
+            after: tally.after,
+            above: tally.above,
+            twice: tally.twice,
+        });
+    }
+    let len = line.len();
+    if len == 0 {
+        return Lines::Unknown;
+    }
+    if line[0] == b'c' {
+        return Lines::Known(tally);
+    }
+    let first = stop(line, 0, SPACE);
+    if line[0] != b'v' || first != 1 {
+        return Lines::Unknown;
+    }
+    let found = Tally {
+        status: tally.status,
+        again: tally.again,
+        early: either(tally.early, !tally.status),
+        after: tally.after,
+        above: tally.above,
+        twice: tally.twice,
+    };
+    read_values(marks, found, line)
+}
+
+// Notes a text's lines.
+fn read_lines(marks: &mut [u8], text: &[u8]) -> Lines
+    requires { ⌜ (0 < length (now marks)) × (length (now text) ≤ 65536) ⌝ }
+    ensures { λ r. ⌜ ReadLines (now (marks .entry)) (now (text .entry)) r (now (marks .exit)) ⌝ }
+{
+    let mut sum = Tally {
+        status: false,
+        again: false,
+        early: false,
+        after: false,
+        above: false,
+        twice: false,
+    };
+    let mut at: usize = 0;
+    while at < text.len() {
+        let end = stop(text, at, LINE_END);
+        match read_line(marks, sum, &text[at..end]) {
+            Lines::Unknown => {
+                return Lines::Unknown;
+            }
+            Lines::Known(next) => {
+                sum = next;
+            }
+        }
+        at = end + 1;
+    }
+    Lines::Known(sum)
+}
+
+// Reads a text of at most 65,536 bytes: whether it breaks none of document 01's 31 to 36, the variables being as many as there are marks but
+// one, or the first of these. If none, a variable's mark is PLUS just where the text makes it true.
+pub fn read(marks: &mut [u8], text: &[u8]) -> Listing
+    requires { ⌜ (0 < length (now marks)) × (now marks ≡ replicate (length (now marks)) 0) × (length (now text) ≤ 65536) ⌝ }
+    ensures { λ r. ⌜ Form (length (now (marks .entry))) (now (text .entry)) r (now (marks .exit)) ⌝ }
+{
+    let len = text.len();
+    if len > 0 {
+        if text[len - 1] != LINE_END {
+            return Listing::Refused(Fault::End);
+        }
+    }
+    match read_lines(marks, text) {
+        Lines::Unknown => Listing::Refused(Fault::Line),
+        Lines::Known(sum) => {
+            if !sum.status || sum.again || sum.early {
+                return Listing::Refused(Fault::Status);
+            }
+            if sum.after || marks[0] == UNLISTED {
+                return Listing::Refused(Fault::Closing);
+            }
+            if sum.above {
+                return Listing::Refused(Fault::Above);
+            }
+            if sum.twice {
+                return Listing::Refused(Fault::Twice);
+            }
+            Listing::Listed
+        }
+    }
+}
