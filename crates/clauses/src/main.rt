@@ -3,20 +3,16 @@ use encoding::Counting;
 use encoding::LINE_ROOM;
 use libc::STDIN_FILENO;
 use libc::STDOUT_FILENO;
+use report::MOST_REFUSAL;
+use sheet::ENOUGH;
 ghost use Prim.Native.Nat.{_≤_};
 ghost use lib.ListN.{length};
 ghost use Rattle.model.specs.Sheet.{sheetOf};
 ghost use Rattle.model.specs.Range.{Admitted};
 ghost use Rattle.model.specs.Clause.{ids};
 
-// No accepted sheet has more than 159 bytes, and the first 160 decide the answer.
-const SHEET: usize = 160;
-
-// Room for the line of a refusal.
-const REFUSED: usize = 12;
-
 fn main() {
-    let mut buf = [0u8; SHEET];
+    let mut buf = [0u8; ENOUGH];
     let n = io::read_full(STDIN_FILENO, &mut buf);
     show(&buf[..n]);
 }
@@ -53,7 +49,7 @@ fn show_line(sheet: &[u8], n: usize) -> bool
 
 // Prints the line of a refusal.
 fn show_refusal(number: u8) {
-    let mut line = [0u8; REFUSED];
+    let mut line = [0u8; MOST_REFUSAL];
     let len = report::refusal(&mut line, number);
     io::write_all(STDOUT_FILENO, &line[..len]);
 }

@@ -1,4 +1,5 @@
 // A solver's reply, read without trusting it: what it says of the fields' places, and the substitution that is handed over if it solves the sheet.
+use fields::FIELD_BYTES;
 use places::Test;
 ghost use mathlib.Core.Path.{_≡_};
 ghost use Prim.Native.Nat.{_*_, _≤_};
@@ -12,9 +13,7 @@ ghost use Rattle.model.specs.Calls as model;
 ghost use Rattle.places.specs.Marked.{Marked};
 ghost use Rattle.decoding.specs.Answer.{numberOf, replied};
 
-// A field's bytes in a filling, the most bytes of a text, and the most marks: of 0 and of each variable.
-const FIELD_BYTES: usize = 9;
-
+// The most bytes of a text, and the most marks: of 0 and of each variable.
 const MOST_REPLY: usize = 65536;
 
 const MOST_MARKS: usize = 5649;

@@ -11,13 +11,16 @@ ghost use Rattle.fields.specs.Memory.{textsOf, Whole, meaning, Held, fie
 ghost use Rattle.fields.specs.Answer.{numberOf, left, admitted};
 
 // The most fields, a field's places, its bytes in a filling, and what a place past the length holds.
-const FIELDS: usize = 6;
+pub const FIELDS: usize = 6;
 
-const PLACES: usize = 8;
+pub const PLACES: usize = 8;
 
-const FIELD_BYTES: usize = 9;
+pub const FIELD_BYTES: usize = 9;
 
-const PAST: u8 = 255;
+pub const PAST: u8 = 255;
+
+// The most bytes of a filling.
+pub const MOST_BYTES: usize = 54;
 
 // A field's text: letter numbers, 255 past the length.
 pub struct Field {

@@ -15,11 +15,7 @@ pub fn find(text: &[u8], from: usize, x: u8) -> usize
     ensures { λ r. ⌜ r ≤ length (now (text .entry)) ⌝ }
     ensures { λ r. ⌜ r ≡ length (take r (now (text .entry))) ⌝ }
 {
-    let mut i = from;
-    while i < text.len() && text[i] != x {
-        i += 1;
-    }
-    i
+    scan::find(text, from, x)
 }
 
 // The index after `at`, but none past the end of `text`.

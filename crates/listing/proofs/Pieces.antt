@@ -1,21 +1,19 @@
--- A line cut at an end byte, and the pieces of a v line noted one after another: one law for each turn of `stop` and of `read_values`.
--- Assumes nothing.
+-- A line cut at an end byte, and the pieces of a v line noted one after another: one law for each turn of `read_values`. Assumes nothing.
 use mathlib.Core.Path.{_≡_, refl, sym, ap, _∙_}
 use mathlib.Core.Bool.{true, false}
 use mathlib.Core.List.{List, [], _∷_, _++_}
 use Prim.Native.Nat.{ℕ, zero, suc, _+_, _-_, _<_, _≤_}
-use native.Mathlib.Numerals.{add-one}
 use native.Mathlib.Omega.{arith}
 use lib.Dec.{eqb}
 use lib.IntN.{ℤ, pos, negsuc, natAbs}
-use lib.ListN.{length, take, drop, getD, drop-of-length-le, length-append}
-use lib.Seq.{drop-cons, drop-append-le, drop-drop}
-use borrow.Author.Tests.{eq-eqb, ne-eqb, eqb-true, eqb-false}
+use lib.ListN.{length, take, drop, drop-of-length-le, length-append}
+use lib.Seq.{drop-append-le, drop-drop}
+use borrow.Author.Tests.{eqb-true}
 use Rattle.model.specs.Lists.{span, all, All}
 use Rattle.model.specs.Dimacs.{numbersFrom, numbers}
 use Rattle.model.specs.Reply.{isNumber, split, spaced}
 use Rattle.model.proofs.Lists.{by-test}
-use Rattle.model.proofs.Splitting.{split-piece}
+use Rattle.model.proofs.Splitting.{before-end, split-piece}
 use Rattle.listing.specs.declared.Tally.{Tally}
 use Rattle.listing.specs.declared.Piece.the-variants as piece
 use Rattle.listing.specs.declared.Lines.the-variants.{Known, Unknown}
@@ -23,21 +21,7 @@ use Rattle.listing.specs.Tally.{noted, marked, isPos, afterNumber, after
 use Rattle.listing.specs.Answer.{Said}
 use Rattle.listing.proofs.Marks.{marked-long}
 
--- The first end byte x at or after index i: here, later, or nowhere.
-module _ (x : ℕ) (ys : List ℕ) (i : ℕ) where
-  pub span-here : i < length ys → getD ys i 0 ≡ x → span x (drop i ys) ≡ 0
-  unfolding span
-  span-here h e = rw (drop-cons ys i 0, eq-eqb _ _ e)
-
-  pub span-later : i < length ys → (getD ys i 0 ≡ x → ⊥) → span x (drop i ys) ≡ suc (span x (drop (i + 1) ys))
-  unfolding span
-  span-later h e = rw (add-one, drop-cons ys i 0, ne-eqb _ _ e)
-
-  pub span-nowhere : length ys ≤ i → span x (drop i ys) ≡ 0
-  unfolding span
-  span-nowhere h = rw (drop-of-length-le ys h)
-
--- A stretch up to an end byte that stands after the whole list too, and what follows it. There is none in the stretch.
+-- A stretch up to an end byte that stands after the whole list too, and what follows it.
 module _ (x : ℕ) where
   cut : (ys : List ℕ) → ys ++ (x ∷ []) ≡ take (span x ys) ys ++ (x ∷ drop (suc (span x ys)) (ys ++ (x ∷ [])))
   unfolding span
@@ -45,13 +29,6 @@ module _ (x : ℕ) where
   cut (y ∷ ys) = by-test (eqb y x)
       (λ t. rw t (ap (λ z. z ∷ (ys ++ (x ∷ []))) (eqb-true y x t)))
       (λ t. rw t (ap (λ z. y ∷ z) (cut ys)))
-
-  before-end : (ys : List ℕ) → All (λ y. y ≡ x → ⊥) (take (span x ys) ys)
-  unfolding span All
-  before-end [] = tt
-  before-end (y ∷ ys) = by-test (eqb y x)
-      (λ t. rw t tt)
-      (λ t. rw t ((eqb-false y x t, before-end ys)))
 
 -- The piece of a line from an offset to the next space: the pieces, and the bytes, from there on.
 pub record Piece-at (line : List ℕ) (at end : ℕ) : Type 0 where

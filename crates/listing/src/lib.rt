@@ -1,10 +1,11 @@
 // The text of a solver's reply: its lines, its numbers, and a mark for each number that it lists. Nothing here knows of a sheet; the text's
 // numbers are judged by the lent marks, one for each number from 0 on.
+use scan::find;
 ghost use mathlib.Core.Path.{_≡_};
 ghost use mathlib.Core.Bool.{_||_};
 ghost use Prim.Native.Nat.{_+_, _<_, _≤_};
-ghost use lib.ListN.{length, drop, replicate};
-ghost use Rattle.model.specs.Lists.{pick, span};
+ghost use lib.ListN.{length, replicate};
+ghost use Rattle.model.specs.Lists.{pick};
 ghost use Rattle.model.specs.Dimacs.{valueOf};
 ghost use Rattle.model.specs.Reply.{magnitude};
 ghost use Rattle.listing.specs.Tally.{markOf, noted, marked, ReadValues, ReadLine, ReadLines};
@@ -74,21 +75,6 @@ pub fn number(fault: Fault) -> u8
         Fault::Above => 35,
         Fault::Twice => 36,
     }
-}
-
-// The offset of the first end byte at or after an offset, or the length where there is none.
-fn stop(bytes: &[u8], at: usize, end: u8) -> usize
-    requires { ⌜ at ≤ length (now bytes) ⌝ }
-    ensures { λ r. ⌜ (r ≡ at + span end (drop at (now (bytes .entry)))) × (at ≤ r) × (r ≤ length (now (bytes .entry))) ⌝ }
-{
-    let mut i = at;
-    while i < bytes.len() {
-        if bytes[i] == end {
-            return i;
-        }
-        i += 1;
-    }
-    i
 }
 
 // The value of 1 to 9 digits, the first not 0; of other bytes 0.
@@ -200,7 +186,7 @@ fn read_values(marks: &mut [u8], tally: Tally, line: &[u8]) -> Lines
     let mut sum = tally;
     let mut at: usize = 2;
     while at <= line.len() {
-        let end = stop(line, at, SPACE);
+        let end = find(line, at, SPACE);
         match read_number(&line[at..end]) {
             Piece::Unknown => {
                 return Lines::Unknown;
@@ -239,7 +225,7 @@ fn read_line(marks: &mut [u8], tally: Tally, line: &[u8]) -> Lines
     if line[0] == b'c' {
         return Lines::Known(tally);
     }
-    let first = stop(line, 0, SPACE);
+    let first = find(line, 0, SPACE);
     if line[0] != b'v' || first != 1 {
         return Lines::Unknown;
     }
@@ -269,7 +255,7 @@ fn read_lines(marks: &mut [u8], text: &[u8]) -> Lines
     };
     let mut at: usize = 0;
     while at < text.len() {
-        let end = stop(text, at, LINE_END);
+        let end = find(text, at, LINE_END);
         match read_line(marks, sum, &text[at..end]) {
             Lines::Unknown => {
                 return Lines::Unknown;

@@ -39,7 +39,7 @@ listing ns = satisfiableLine ++ (10 ∷ (vLine ns ++ (10 ∷ [])))
 abbrev Small : ℕ → Type 0
 Small n = (1 ≤ n) × (n ≤ 9999)
 
--- Each of them is a number in the reply form, without a space or a line end.
+-- Each of them is a number in the reply form.
 digits-number : (n : ℕ) → Small n → isNumber (decimal n) ≡ true
 unfolding isNumber startsWith valueFrom All
 digits-number n h =

@@ -20,12 +20,12 @@ use Rattle.model.proofs.Listings.{has-listing}
 use Rattle.model.proofs.Replying.{replying-answered, accepts-solves, replying-lists, replying-long}
 
 -- a call that hands over and is accepted has handed over some values
-record HandedOver (a : Answer) (before after : List ℕ) : Type 0 where
+record Values (a : Answer) (before after : List ℕ) : Type 0 where
   values : List ℕ
   is : a ≡ finished values
   bytes : after ≡ values ++ drop (length values) before
 
-handed : (a : Answer) (before after : List ℕ) → finished [] ≡ unnumbered a → after ≡ written a before → HandedOver a before after
+handed : (a : Answer) (before after : List ℕ) → finished [] ≡ unnumbered a → after ≡ written a before → Values a before after
 handed (refused n) before after e h = not-finished (sym e)
 handed (finished values) before after e h = record { values = values; is = refl; bytes = h }
 

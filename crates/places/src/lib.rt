@@ -1,5 +1,8 @@
 // What marks say of the fields' places: which values are true at each, and the substitution that they spell.
+use fields::FIELDS;
 use fields::Field;
+use fields::PAST;
+use fields::PLACES;
 use fields::Substitution;
 ghost use mathlib.Core.Path.{_≡_};
 ghost use mathlib.Core.List.{map};
@@ -16,12 +19,6 @@ ghost use Rattle.model.specs.Reply.{blanksLast};
 ghost use Rattle.fields.specs.Memory.{textOf, Whole, meaning, Held};
 ghost use Rattle.places.specs.Marked.{Marked};
 ghost use Rattle.places.specs.Test.{fieldPasses, allPass};
-
-const FIELDS: usize = 6;
-
-const PLACES: usize = 8;
-
-const PAST: u8 = 255;
 
 // What is asked of every field: that each place has just one true value (document 01's 37), that no letter stands after a blank (38).
 pub enum Test {

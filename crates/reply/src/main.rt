@@ -1,7 +1,11 @@
 // Reads a sheet from the file sheet.tpl and a solver's reply from reply.txt, and prints the report of the clash that the reply gives, or only
 // `refused`, a space, document 01's number of the refusal and a line end. A file that cannot be opened counts as empty.
 use decoding::Reply;
+use fields::FIELD_BYTES;
+use fields::MOST_BYTES;
 use libc::STDOUT_FILENO;
+use report::MOST_REPORT;
+use sheet::ENOUGH;
 ghost use Prim.Native.Nat.{_≤_};
 ghost use lib.ListN.{length, take};
 ghost use mathlib.Core.Path.{_≡_};
@@ -10,20 +14,11 @@ ghost use Rattle.model.specs.Sheet.{sheetOf};
 ghost use Rattle.model.specs.Calls.{replying};
 ghost use Rattle.model.specs.Report.{mostReport, printed};
 
-// The first 160 bytes of a sheet decide the answer, and of a text the first 65,537: one more than are allowed.
-const SHEET: usize = 160;
-
+// Of a text the first 65,537 bytes decide the answer: one more than are allowed.
 const TEXT: usize = 65537;
 
-// A field's bytes in a filling, and the greatest sizes of a filling and of a report.
-const FIELD_BYTES: usize = 9;
-
-const FILLING: usize = 54;
-
-const REPORT: usize = 236;
-
 fn main() {
-    let mut sheet = [0u8; SHEET];
+    let mut sheet = [0u8; ENOUGH];
     let n = read_file(b"sheet.tpl", &mut sheet);
     let mut text = room();
     let m = read_file(b"reply.txt", &mut text);
@@ -52,7 +47,7 @@ fn read_file(path: &[u8], buf: &mut [u8]) -> usize
 
 // Prints the answer.
 fn show(sheet: &[u8], text: &[u8]) {
-    let mut out = [0u8; REPORT];
+    let mut out = [0u8; MOST_REPORT];
     let n = answer(sheet, text, &mut out);
     io::write_all(STDOUT_FILENO, &out[..n]);
 }
@@ -62,7 +57,7 @@ fn answer(sheet: &[u8], text: &[u8], out: &mut [u8]) -> usize
     requires { ⌜ mostReport ≤ length (now out) ⌝ }
     ensures { λ r. ⌜ Puts (now (out .entry)) 0 (printed (sheetOf (now (sheet .entry))) (replying (now (sheet .entry)) (now (text .entry)) 54)) (now (out .exit)) r ⌝ }
 {
-    let mut filling = [0u8; FILLING];
+    let mut filling = [0u8; MOST_BYTES];
     match decoding::read_reply(sheet, text, &mut filling) {
         Reply::Refused(refusal) => report::refusal(out, decoding::number(refusal)),
         Reply::Accepted => {

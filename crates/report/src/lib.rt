@@ -16,6 +16,11 @@ ghost use Rattle.model.specs.Report as model;
 ghost use Rattle.model.specs.Calls.{finished, checking};
 ghost use Rattle.fields.specs.Memory.{Held, meaning};
 
+// Room for any report, and for the line of any refusal.
+pub const MOST_REPORT: usize = 236;
+
+pub const MOST_REFUSAL: usize = 12;
+
 // A line at an offset: a name with a space after it, a number of one digit, "=", a word as letter bytes, a line end. Returns the offset
 // past it.
 fn line(buf: &mut [u8], at: usize, name: &[u8], n: u8, sheet: &[u8], word: &[u8]) -> usize

@@ -1,8 +1,8 @@
-// Bytes and stretches of a sheet: a mark, a signed number, a part of the caller's slice.
+// Bytes and stretches: a mark, the first byte of a kind, a signed number, a part of the caller's slice.
 ghost use mathlib.Core.Path.{_≡_};
 ghost use Prim.Native.Nat.{_+_, _<_, _≤_};
 ghost use lib.ListN.{length, take, drop};
-ghost use Rattle.model.specs.Lists.{startsWith};
+ghost use Rattle.model.specs.Lists.{startsWith, span};
 ghost use Rattle.model.specs.Sheet.{signed8, signed16};
 
 // Whether s starts with these bytes.
@@ -20,6 +20,21 @@ pub fn starts_with(s: &[u8], mark: &[u8]) -> bool
         i += 1;
     }
     true
+}
+
+// The offset of the first x at or after an offset, or the length where there is none.
+pub fn find(bytes: &[u8], at: usize, x: u8) -> usize
+    requires { ⌜ at ≤ length (now bytes) ⌝ }
+    ensures { λ r. ⌜ (r ≡ at + span x (drop at (now (bytes .entry)))) × (at ≤ r) × (r ≤ length (now (bytes .entry))) ⌝ }
+{
+    let mut i = at;
+    while i < bytes.len() {
+        if bytes[i] == x {
+            return i;
+        }
+        i += 1;
+    }
+    i
 }
 
 // The n bytes of the sheet from an offset on: the caller's own slice, in part.

@@ -3,6 +3,7 @@
 mod bytes;
 mod walk;
 
+pub use bytes::find;
 pub use bytes::signed_byte;
 pub use bytes::signed_pair;
 pub use bytes::starts_with;

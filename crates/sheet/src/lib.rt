@@ -85,6 +85,9 @@ pub fn number(refusal: Refusal) -> u8
     }
 }
 
+// No accepted sheet has more than 159 bytes, and the first 160 decide how one is read.
+pub const ENOUGH: usize = 160;
+
 const VERSION: usize = 1;
 
 const MOST_LETTERS: u8 = 8;

@@ -5,11 +5,13 @@
 // hexadecimal with spaces between their parts. For a spelling there follow a semicolon, the pair and
 // the side, eight bytes each, and the length of the lent buffer, one byte. A line with no colon is a
 // heading and is printed as it is. The file stdout has document 01's answers.
+use fields::MOST_BYTES;
 use hex::after;
 use hex::decode;
 use hex::find;
 use libc::STDIN_FILENO;
 use libc::STDOUT_FILENO;
+use report::MOST_REPORT;
 use scan::wide;
 use substitution::Checking;
 use substitution::Refusal;
@@ -28,11 +30,6 @@ const ASKED: usize = 17;
 
 // The longest buffer that is lent. Document 01's texts have at most 24 letters.
 const LENT: usize = 32;
-
-// The greatest sizes of a report and of a filling.
-const REPORT: usize = 236;
-
-const FILLING: usize = 54;
 
 // Shows each line of standard input, of which the first 65,536 bytes are read.
 fn main() {
@@ -99,7 +96,7 @@ fn show_check(sheet: &[u8], filling: &[u8]) {
 fn show_report(sheet: &[u8], filling: &[u8])
     requires { ⌜ checking (now sheet) (now filling) ≡ finished (1 ∷ []) ⌝ }
 {
-    let mut buf = [0u8; REPORT];
+    let mut buf = [0u8; MOST_REPORT];
     let n = report::write(sheet, filling, &mut buf);
     io::write_all(STDOUT_FILENO, b": ");
     io::write_all(STDOUT_FILENO, &buf[..n]);
@@ -110,7 +107,7 @@ fn show_report(sheet: &[u8], filling: &[u8])
 fn show_difference(sheet: &[u8], filling: &[u8])
     requires { ⌜ checking (now sheet) (now filling) ≡ finished (1 ∷ []) ⌝ }
 {
-    let mut buf = [0u8; FILLING];
+    let mut buf = [0u8; MOST_BYTES];
     let fields = wide(sheet::four_counts(sheet).fields);
     fields::store(&mut buf, fields::load(sheet, filling), fields);
     if !words::same(&buf[..filling.len()], filling) {

@@ -35,8 +35,8 @@ returns-3 c =
     let status = sym (c .before .before .before .before .same .ensures) ∙ c .before .before .before .if1 .left in
     line-comment (a .marks .now) (a .tally) (a .line .now) status (omega arith) (c .if3 .taken)
 
-stop-requires : tie.Need-stop-requires
-stop-requires c κs = search needs
+find-requires : tie.Need-find-requires
+find-requires c κs = search needs
 
 shared-slice-read-if4 : tie.Need-shared-slice-read-if4
 shared-slice-read-if4 c = search needs
@@ -45,11 +45,11 @@ returns-4 : tie.Need-returns-4
 returns-4 c =
     let at-if2 = c .before .before .before .before .before in
     let line = at-if2 .before .before .before .before .before .before .args .line .now in
-    let at-stop = c .before .before .stop in
+    let at-find = c .before .before .find in
     let status = sym (at-if2 .before .before .same .ensures) ∙ at-if2 .before .if1 .left in
     let other = c .before .before .before .if3 .left in
-    line-other line status other (at-stop .result) (at-stop .ensures .0)
-    (⊎-elim (λ w v one. w .taken v) (λ w v one. eqb-false (at-stop .result) 1 (not-true _ (w .1 .taken)) one) (c .if4 .came))
+    line-other line status other (at-find .result) (at-find .ensures .0)
+    (⊎-elim (λ w v one. w .taken v) (λ w v one. eqb-false (at-find .result) 1 (not-true _ (w .1 .taken)) one) (c .if4 .came))
 
 either-requires-2 : tie.Need-either-requires-2
 either-requires-2 c κs = search needs
@@ -64,13 +64,13 @@ returns-5 : tie.Need-returns-5
 returns-5 c =
     let at-values = c .before .before .read-values in
     let at-either = c .before .before .before .before .either2 in
-    let at-stop = c .before .before .before .before .before .before .before .before .before .stop in
+    let at-find = c .before .before .before .before .before .before .before .before .before .find in
     let at-if2 = c .before .before .before .before .before .before .before .before .before .before .before .before in
     let a = at-if2 .before .before .before .before .before .before .args in
     let status = sym (at-if2 .before .before .same .ensures) ∙ at-if2 .before .if1 .left in
     let v = c .before .before .before .before .before .before .before .if4 .left in
-    let one = eqb-true (at-stop .result) 1 (not-false _ (c .before .before .before .before .before .before .if5 .left)) in
-    line-values (a .marks .now) (a .tally) (a .line .now) status (omega (arith, at-if2 .if2 .left)) v (at-stop .result) (at-stop .ensures .0) one
+    let one = eqb-true (at-find .result) 1 (not-false _ (c .before .before .before .before .before .before .if5 .left)) in
+    line-values (a .marks .now) (a .tally) (a .line .now) status (omega (arith, at-if2 .if2 .left)) v (at-find .result) (at-find .ensures .0) one
     (at-either .result) (at-either .ensures) (at-values .result) (at-values .last .0) (at-values .ensures)
 
 pub read-line-spec : {M : Type 1} → statement M
@@ -84,7 +84,7 @@ read-line-spec =
     returns-2
     shared-slice-read-if3
     returns-3
-    stop-requires
+    find-requires
     shared-slice-read-if4
     returns-4
     either-requires-2

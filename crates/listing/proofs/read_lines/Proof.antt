@@ -20,8 +20,8 @@ abbrev μ-loop : tie.MeasureT-loop
 loop-holds : tie.Need-loop-holds Inv-loop μ-loop
 loop-holds c = passed-none _ _
 
-stop-requires : tie.Need-stop-requires Inv-loop μ-loop
-stop-requires c κs = omega arith
+find-requires : tie.Need-find-requires Inv-loop μ-loop
+find-requires c κs = omega arith
 
 sub-read-line : tie.Need-sub-read-line Inv-loop μ-loop
 sub-read-line c = omega arith
@@ -36,11 +36,11 @@ read-line-requires : tie.Need-read-line-requires Inv-loop μ-loop
 read-line-requires c κs =
     let at-start = c .before .before .before .before .before .before .before in
     let at-loop = c .before .before .before .before .loop in
-    let end = c .before .before .stop .result in
+    let end = c .before .before .find .result in
     let text = at-start .args .text .now in
     let l = at-loop .inv .long in
     let p = at-start .pre in
-    let e = c .before .before .stop .ensures in
+    let e = c .before .before .find .ensures in
     let d = length-drop (at-loop .at) text in
     let k = length-take-le (end - at-loop .at) (drop (at-loop .at) text) (omega arith) in
     (omega arith, omega arith)
@@ -57,12 +57,12 @@ returns : tie.Need-returns Inv-loop μ-loop
 returns c =
     let at-start = c .before .before .before .before .before .before .before .before .before .before .before .before in
     let at-loop = c .before .before .before .before .before .before .before .before .before .loop in
-    let at-stop = c .before .before .before .before .before .before .before .stop in
+    let at-find = c .before .before .before .before .before .before .before .find in
     let at-line = c .before .before .before .before .read-line in
     let a = at-start .args in
     let text = a .text .now in
-    let line = take (at-stop .result - at-loop .at) (drop (at-loop .at) text) in
-    passed-unknown (a .marks .now) text (at-loop .at) (at-loop .marks) (at-loop .sum) (at-loop .inv) (omega arith) (at-stop .result) (at-stop .ensures .0)
+    let line = take (at-find .result - at-loop .at) (drop (at-loop .at) text) in
+    passed-unknown (a .marks .now) text (at-loop .at) (at-loop .marks) (at-loop .sum) (at-loop .inv) (omega arith) (at-find .result) (at-find .ensures .0)
     (at-line .last .0) (subst (λ r. ReadLine (at-loop .marks) (at-loop .sum) line r (at-line .last .0)) (c .enum-told .given .1) (at-line .ensures))
 
 enum-known-next : tie.Need-enum-known-next Inv-loop μ-loop
@@ -78,13 +78,13 @@ loop-again : tie.Need-loop-again Inv-loop μ-loop
 loop-again c =
     let at-start = c .before .before .before .before .before .before .before .before .before .before .before .before .before in
     let at-loop = c .before .before .before .before .before .before .before .before .before .before .loop in
-    let at-stop = c .before .before .before .before .before .before .before .before .stop in
+    let at-find = c .before .before .before .before .before .before .before .before .find in
     let at-line = c .before .before .before .before .before .read-line in
     let next = c .before .next .given in
     let a = at-start .args in
     let text = a .text .now in
-    let line = take (at-stop .result - at-loop .at) (drop (at-loop .at) text) in
-    passed-more (a .marks .now) text (at-loop .at) (at-loop .marks) (at-loop .sum) (at-loop .inv) (omega arith) (at-stop .result) (at-stop .ensures .0)
+    let line = take (at-find .result - at-loop .at) (drop (at-loop .at) text) in
+    passed-more (a .marks .now) text (at-loop .at) (at-loop .marks) (at-loop .sum) (at-loop .inv) (omega arith) (at-find .result) (at-find .ensures .0)
     (at-line .last .0) (next .0 .0) (at-line .kept .0)
     (subst (λ r. ReadLine (at-loop .marks) (at-loop .sum) line r (at-line .last .0)) (next .1) (at-line .ensures))
 
@@ -104,7 +104,7 @@ read-lines-spec =
     Inv-loop
     μ-loop
     loop-holds
-    stop-requires
+    find-requires
     sub-read-line
     part-read-line-start
     part-read-line-end

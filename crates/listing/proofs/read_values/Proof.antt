@@ -20,8 +20,8 @@ abbrev μ-loop : tie.MeasureT-loop
 loop-holds : tie.Need-loop-holds Inv-loop μ-loop
 loop-holds c = noted-none _ _ _
 
-stop-requires : tie.Need-stop-requires Inv-loop μ-loop
-stop-requires c κs = omega arith
+find-requires : tie.Need-find-requires Inv-loop μ-loop
+find-requires c κs = omega arith
 
 sub-read-number : tie.Need-sub-read-number Inv-loop μ-loop
 sub-read-number c = omega arith
@@ -45,13 +45,13 @@ returns : tie.Need-returns Inv-loop μ-loop
 returns c =
     let at-start = c .before .before .before .before .before .before .before .before .before in
     let at-loop = c .before .before .before .before .before .before .loop in
-    let at-stop = c .before .before .before .before .stop in
+    let at-find = c .before .before .before .before .find in
     let a = at-start .args in
     let line = a .line .now in
-    let piece = take (at-stop .result - at-loop .at) (drop (at-loop .at) line) in
+    let piece = take (at-find .result - at-loop .at) (drop (at-loop .at) line) in
     let said = subst (Said piece) (c .enum-told .given .1) (c .before .before .read-number .ensures) in
-    noted-unknown (a .marks .now) (a .tally) line (at-loop .at) (at-loop .marks) (at-loop .sum) (at-loop .inv) (at-stop .result)
-    (piece-at line (at-loop .at) (at-stop .result) (omega arith) (at-stop .ensures .0)) said
+    noted-unknown (a .marks .now) (a .tally) line (at-loop .at) (at-loop .marks) (at-loop .sum) (at-loop .inv) (at-find .result)
+    (piece-at line (at-loop .at) (at-find .result) (omega arith) (at-find .ensures .0)) said
 
 enum-known-n : tie.Need-enum-known-n Inv-loop μ-loop
 enum-known-n c = search needs
@@ -81,19 +81,19 @@ loop-again : tie.Need-loop-again Inv-loop μ-loop
 loop-again c =
     let at-start = c .before .before .before .before .before .before .before .before in
     let at-loop = c .before .before .before .before .before .loop in
-    let at-stop = c .before .before .before .stop in
+    let at-find = c .before .before .before .find in
     let a = at-start .args in
     let line = a .line .now in
-    let piece = take (at-stop .result - at-loop .at) (drop (at-loop .at) line) in
-    let there = piece-at line (at-loop .at) (at-stop .result) (omega arith) (at-stop .ensures .0) in
+    let piece = take (at-find .result - at-loop .at) (drop (at-loop .at) line) in
+    let there = piece-at line (at-loop .at) (at-find .result) (omega arith) (at-find .ensures .0) in
     let said = c .before .read-number .ensures in
     ⊎-elim
     (λ w.
-    noted-plus (a .marks .now) (a .tally) line (at-loop .at) (at-loop .marks) (at-loop .sum) (at-loop .inv) (at-stop .result) there (w .1 .given .0 .0)
+    noted-plus (a .marks .now) (a .tally) line (at-loop .at) (at-loop .marks) (at-loop .sum) (at-loop .inv) (at-find .result) there (w .1 .given .0 .0)
     (subst (Said piece) (w .1 .given .1) said)
     (c .match .marks) (c .match .sum) (w .8 ∙ w .4 .ensures .0) (w .7 ∙ w .4 .ensures .1))
     (λ w.
-    noted-minus (a .marks .now) (a .tally) line (at-loop .at) (at-loop .marks) (at-loop .sum) (at-loop .inv) (at-stop .result) there (w .1 .given .0 .0)
+    noted-minus (a .marks .now) (a .tally) line (at-loop .at) (at-loop .marks) (at-loop .sum) (at-loop .inv) (at-find .result) there (w .1 .given .0 .0)
     (subst (Said piece) (w .1 .given .1) said)
     (c .match .marks) (c .match .sum) (w .8 ∙ w .4 .ensures .0) (w .7 ∙ w .4 .ensures .1))
     (c .match .came)
@@ -114,7 +114,7 @@ read-values-spec =
     Inv-loop
     μ-loop
     loop-holds
-    stop-requires
+    find-requires
     sub-read-number
     part-read-number-start
     part-read-number-end

@@ -1,18 +1,18 @@
--- `listing::stop` meets its contract. The loop's invariant: the first end byte from index i on is the first from the start on. Assumes nothing.
+-- `scan::bytes::find` meets its contract. The loop's invariant: the first x from index i on is the first from the start on. Assumes nothing.
 use mathlib.Core.Path.{_≡_, refl}
 use Prim.Native.Nat.{_+_, _-_, _≤_}
 use native.Mathlib.Omega.{arith}
 use lib.ListN.{length, drop}
 use Rattle.model.specs.Lists.{span}
-use Rattle.listing.proofs.Pieces.{span-here, span-later, span-nowhere}
-use Rattle.listing.proofs.stop.Statement.{statement}
-use Rattle.listing.proofs.stop.Tie as tie
+use Rattle.model.proofs.Splitting.{span-here, span-later, span-nowhere}
+use Rattle.scan.proofs.bytes.find.Statement.{statement}
+use Rattle.scan.proofs.bytes.find.Tie as tie
 
 abbrev Inv-loop : tie.InvT-loop
-Inv-loop bytes at end i₀ i = (at ≤ i) × (i ≤ length bytes) × (at + span end (drop at bytes) ≡ i + span end (drop i bytes))
+Inv-loop bytes at x i₀ i = (at ≤ i) × (i ≤ length bytes) × (at + span x (drop at bytes) ≡ i + span x (drop i bytes))
 
 abbrev μ-loop : tie.MeasureT-loop
-μ-loop bytes at end i₀ i = length bytes - i
+μ-loop bytes at x i₀ i = length bytes - i
 
 loop-holds : tie.Need-loop-holds Inv-loop μ-loop
 loop-holds c = (omega arith, omega arith, refl)
@@ -26,7 +26,7 @@ returns c =
     let at-loop = c .before .before .before .loop in
     let a = at-start .args in
     let e = at-loop .inv .2 in
-    let n = span-here (a .end) (a .bytes .now) (at-loop .i) (omega arith) (c .if1 .taken) in
+    let n = span-here (a .x) (a .bytes .now) (at-loop .i) (omega arith) (c .if1 .taken) in
     (omega arith, omega arith, omega arith)
 
 add-i : tie.Need-add-i Inv-loop μ-loop
@@ -41,7 +41,7 @@ loop-again c =
     let at-loop = c .before .before .before .loop in
     let a = at-start .args in
     let e = at-loop .inv .2 in
-    let n = span-later (a .end) (a .bytes .now) (at-loop .i) (omega arith) (c .if1 .left) in
+    let n = span-later (a .x) (a .bytes .now) (at-loop .i) (omega arith) (c .if1 .left) in
     (omega arith, omega arith, omega arith)
 
 returns-2 : tie.Need-returns-2 Inv-loop μ-loop
@@ -50,11 +50,11 @@ returns-2 c =
     let at-loop = c .before .loop in
     let a = at-start .args in
     let e = at-loop .inv .2 in
-    let n = span-nowhere (a .end) (a .bytes .now) (at-loop .i) (omega arith) in
+    let n = span-nowhere (a .x) (a .bytes .now) (at-loop .i) (omega arith) in
     (omega arith, omega arith, omega arith)
 
-pub stop-spec : {M : Type 1} → statement M
-stop-spec =
+pub find-spec : {M : Type 1} → statement M
+find-spec =
     tie.close
     (tie.spec
     Inv-loop
