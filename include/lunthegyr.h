@@ -53,6 +53,14 @@ int64_t tpl_check(const uint8_t *sheet, size_t n, const uint8_t *filling, size_t
 int64_t tpl_spell(const uint8_t *sheet, size_t n, uint64_t pair, uint64_t side, const uint8_t *filling, size_t m, uint8_t *text,
                   size_t cap);
 
+/* Searches a sheet for a filling that clashes. Returns 1 if there is one, with such a filling in the first 9 bytes per field of the buffer of
+ * cap bytes and the later ones unchanged; where there are several, any of them. Returns 0 if there is none, with no byte changed. A buffer of 54
+ * is always long enough. Where many fields of high limits meet it can take some seconds.
+ * Or it returns minus the number of the first refusal, which is one of tpl_read's, or else:
+ *   27 buffer shorter than 9 bytes per field
+ */
+int64_t tpl_search(const uint8_t *sheet, size_t n, uint8_t *filling, size_t cap);
+
 /* A sheet's clause file asks a SAT solver for a clash. It is text in the DIMACS CNF form: line 0 is "p cnf", the number of variables and
  * the number of clauses; then each clause is a line. Every line ends in a line feed.
  */

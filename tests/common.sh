@@ -22,6 +22,15 @@ bytes() { # FILE
     printf "$(escapes "$1" | tr -d ' ')"
 }
 
+# Prints the bytes of a sheet one by one, with pauses.
+slowly() { # FILE
+    local byte
+    for byte in $(escapes "$1"); do
+        printf "$byte"
+        sleep 0.02
+    done
+}
+
 # Says that a case passed, with a word on it; or that it failed, and why.
 pass() { # CASE WORD
     echo "$name: $1: $2"

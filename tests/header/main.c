@@ -51,6 +51,31 @@ static void spelling(void) {
     expect(text[0] == 'A' && text[1] == '.', "X=A is spelled A, and the next byte stays");
 }
 
+/* P with limit 0, and a sheet without fields: nothing against nothing. */
+static const uint8_t apart[15] = { 'T', 'P', 'L', 0, 1, 1, 1, 1, 0, 'A', 0, 1, 1, 128, 0 };
+static const uint8_t no_fields[12] = { 'T', 'P', 'L', 0, 1, 1, 0, 1, 0, 'A', 0, 0 };
+
+static void searching(void) {
+    uint8_t filling[54], before[54];
+    memset(before, '.', sizeof before);
+    memcpy(filling, before, sizeof filling);
+    expect(tpl_search(sheet, 16, filling, 54) == -9, "searching reads the sheet first");
+    expect(tpl_search(sheet, 16, filling, 0) == -9, "9 comes before 27");
+    expect(tpl_search(sheet, 15, filling, 8) == -27, "eight bytes for one field are refused with 27");
+    expect(tpl_search(apart, 15, filling, 8) == -27, "27 comes before apart");
+    expect(tpl_search(apart, 15, filling, 54) == 0, "P with limit 0 is apart");
+    expect(tpl_search(no_fields, 12, filling, 0) == 1, "a sheet without fields clashes in no bytes");
+    expect(memcmp(filling, before, sizeof filling) == 0, "a refusal, apart and no fields leave the search's buffer");
+    expect(tpl_search(sheet, 15, filling, 54) == 1, "P clashes");
+    expect(memcmp(filling, is_a, sizeof is_a) == 0, "its only clash is X=A");
+    expect(memcmp(filling + 9, before, sizeof filling - 9) == 0, "the bytes after a clash stay");
+    memcpy(filling, before, sizeof filling);
+    expect(tpl_search(sheet, 15, filling, 9) == 1, "nine bytes are enough for it");
+    expect(memcmp(filling, is_a, sizeof is_a) == 0, "the clash is again X=A");
+    expect(memcmp(filling + 9, before, sizeof filling - 9) == 0, "the bytes after the buffer stay");
+    expect(tpl_check(sheet, 15, filling, 9) == 1, "what is found checks as a clash");
+}
+
 static void counting(void) {
     uint64_t counts[4] = { 5, 6, 7, 8 };
     expect(tpl_count(sheet, 16, counts) == -9, "counting reads the sheet first");
@@ -127,12 +152,13 @@ int main(void) {
     reading();
     checking();
     spelling();
+    searching();
     counting();
     writing();
     replying();
     if (!all_passed) {
         return 1;
     }
-    puts("C header: the six calls answer as they must on P");
+    puts("C header: the seven calls answer as they must on P");
     return 0;
 }

@@ -20,8 +20,8 @@ const TWO: &[u8] = b"TPL\0\x01\x02\x02\x01\0AB\x02\x02\x02\x02\x80\x81\x81\x80";
 const RULE: &[u8] = b"TPL\0\x01\x01\x01\x01\x01A\x01\0\0\x01\0\0";
 
 /// No fields: nothing and nothing, with one variable, and A and nothing, with two.
-const NOTHING: &[u8] = b"TPL\0\x01\x01\0\x01\0A\0\0";
-const NEVER: &[u8] = b"TPL\0\x01\x01\0\x01\0A\x01\0\0";
+pub const NOTHING: &[u8] = b"TPL\0\x01\x01\0\x01\0A\0\0";
+pub const NEVER: &[u8] = b"TPL\0\x01\x01\0\x01\0A\x01\0\0";
 
 /// Texts to one sheet, each with its answer: a refusal's number, or 0 for this filling.
 struct Known {

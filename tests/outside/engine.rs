@@ -24,6 +24,10 @@ extern "C" {
         cap: usize,
     ) -> i64;
 
+    /// Answers 1 for a clash and its filling, or 0 for none, or minus the refusal's number; the
+    /// last two without a filling.
+    fn tpl_search(sheet: *const u8, n: usize, filling: *mut u8, cap: usize) -> i64;
+
     /// Answers 0 and the counts of variables and clauses and the size allowance, or minus the
     /// refusal's number and no counts.
     fn tpl_count(sheet: *const u8, n: usize, counts: *mut u64) -> i64;
@@ -152,6 +156,19 @@ pub fn spell(asked: Spelling) -> Outcome<u8> {
         status,
         lent: text.content().to_vec(),
         rest_unchanged: bytes.unchanged() && fields.unchanged() && text.margins_unchanged(),
+    }
+}
+
+/// Calls `tpl_search` on a copy of `sheet`, with a buffer of `room` bytes.
+pub fn search(sheet: &[u8], room: usize) -> Outcome<u8> {
+    let mut bytes = Lent::new(sheet, &SHEET_MARGIN);
+    let mut filling = Lent::new(&buffer_before(room), &WRITTEN_MARGIN);
+    // The pointers lead to `sheet.len()` and `room` bytes.
+    let status = unsafe { tpl_search(bytes.pointer(), sheet.len(), filling.pointer(), room) };
+    Outcome {
+        status,
+        lent: filling.content().to_vec(),
+        rest_unchanged: bytes.unchanged() && filling.margins_unchanged(),
     }
 }
 

@@ -50,6 +50,19 @@ fn text(random: &mut Random, l: usize, length: u8) -> Vec<u8> {
     (0..length).map(|_| random.below(l) as u8).collect()
 }
 
+/// Lengths of buffers for a filling of this many bytes: one that just fits, a longer one, and where
+/// there is one a shorter one.
+pub fn rooms(random: &mut Random, fitting: usize) -> Vec<usize> {
+    let longer = fitting + random.one_of(&[1, FIELD_BYTES, 54, 256]);
+    let mut rooms = vec![fitting, longer];
+    if fitting > 0 {
+        let any = random.below(fitting);
+        let shorter = [0, fitting - 1, fitting - FIELD_BYTES, any];
+        rooms.push(random.one_of(&shorter));
+    }
+    rooms
+}
+
 /// All legal fillings of a sheet.
 pub fn all(sheet: &Sheet) -> Vec<Filling> {
     let mut fillings = vec![Vec::new()];

@@ -1,9 +1,14 @@
 //! Compares the static library with plain answers to the same calls, some hundred thousand times
 //! each, and ends with status 1 at the first case on which the two differ. With the word `replies`
-//! it does so for replies, else for all other calls. With the word `clauses` it tests nothing, and
-//! prints the clause file of the sheet on standard input from the plain writer. With the word
-//! `solvers` and names of SAT solvers it gives the library's clause files to these, compares what
-//! they say with brute force, and gives their replies to the library.
+//! it does so for replies, with `search` for the search, else for all other calls. With `solvers`
+//! and names of SAT solvers it gives the library's clause files to these, compares what they say
+//! with brute force and with the search, and gives their replies to the library.
+//!
+//! Two further words test no library: `clauses` prints the clause file of the sheet on standard input
+//! from the plain writer, and `report`, with a sheet's file, says whether the report on standard
+//! input is right.
+//!
+//! It runs in the repository's folder.
 
 mod answers;
 mod assignment;
@@ -13,9 +18,13 @@ mod checking;
 mod engine;
 mod examples;
 mod fillings;
+mod hard;
+mod large;
 mod lent;
+mod met;
 mod orders;
 mod planted;
+mod printed;
 mod question;
 mod random;
 mod reader;
@@ -24,8 +33,10 @@ mod refusal;
 mod replies;
 mod reply;
 mod report;
+mod searches;
 mod shapes;
 mod sheets;
+mod small;
 mod solver;
 mod solving;
 mod speller;
@@ -35,22 +46,37 @@ mod texts;
 mod writer;
 mod writing;
 
+use solver::Solver;
+use std::fs;
 use std::io::{self, Read};
 
 fn main() -> io::Result<()> {
     let mut words = std::env::args().skip(1);
     match words.next().as_deref() {
         None => test_all(),
-        Some("clauses") => {
-            let mut sheet = Vec::new();
-            io::stdin().read_to_end(&mut sheet)?;
-            writer::print(&sheet)?;
-        }
         Some("replies") => replies::run(),
-        Some("solvers") => solving::run(&words.collect::<Vec<String>>()),
+        Some("search") => searches::run(),
+        Some("solvers") => {
+            let solvers: Vec<Solver> = words.map(|name| solver::named(&name)).collect();
+            assert!(!solvers.is_empty(), "no solver is named");
+            solving::run(&solvers);
+            large::run(&solvers);
+        }
+        Some("clauses") => writer::print(&input()?)?,
+        Some("report") => {
+            let sheet = words.next().expect("a sheet's file");
+            printed::print(&fs::read(sheet)?, &input()?);
+        }
         Some(word) => panic!("no such word: {word}"),
     }
     Ok(())
+}
+
+/// All of standard input.
+fn input() -> io::Result<Vec<u8>> {
+    let mut bytes = Vec::new();
+    io::stdin().read_to_end(&mut bytes)?;
+    Ok(bytes)
 }
 
 fn test_all() {

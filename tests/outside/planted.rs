@@ -52,11 +52,86 @@ pub fn plant_two(random: &mut Random, sheet: &mut Sheet, fillings: &[Filling; 2]
     plant_rules(random, sheet, &fillings[0]);
 }
 
+/// Makes a filling of these lengths clash whose texts are parts of one repeating text. Each pair
+/// comes to spell such a part, so that its templates can have many fields and still differ.
+pub fn plant_parts(random: &mut Random, sheet: &mut Sheet, lengths: &[u8]) {
+    let l = sheet.letters.len();
+    let repeated: Vec<u8> = (0..random.within(1, 5))
+        .map(|_| random.below(l) as u8)
+        .collect();
+    let filling: Filling = lengths
+        .iter()
+        .map(|&length| part(random, &repeated, usize::from(length)))
+        .collect();
+    for pair in &mut sheet.pairs {
+        let longest = random.within(MOST_SYMBOLS / 2, GREATEST_WIDTH);
+        let text = part(random, &repeated, longest);
+        let mut lengths = (0..=longest).rev();
+        let found =
+            lengths.find_map(|length| two(random, &text[..length], &filling, &sheet.limits));
+        *pair = found.expect("two templates for the empty text");
+    }
+    plant_rules(random, sheet, &filling);
+}
+
+/// A text of this length that begins at any place of a repeated one.
+fn part(random: &mut Random, repeated: &[u8], length: usize) -> Vec<u8> {
+    let first = random.below(repeated.len());
+    let letters = repeated.iter().cycle().skip(first);
+    letters.take(length).copied().collect()
+}
+
+/// Two templates that spell `text`, if they are soon found.
+fn two(random: &mut Random, text: &[u8], filling: &Filling, limits: &[u8]) -> Option<Pair> {
+    let mut side = || (0..TRIES).find_map(|_| template(random, text, filling, limits));
+    Some(Pair {
+        left: side()?,
+        right: side()?,
+    })
+}
+
+/// Makes each right template the left one with its symbols in another order; in some a letter is
+/// then another one.
+pub fn shuffle(random: &mut Random, sheet: &mut Sheet) {
+    let l = sheet.letters.len();
+    for pair in &mut sheet.pairs {
+        pair.right = pair.left.clone();
+        for place in 0..pair.right.len() {
+            pair.right.swap(place, random.below(pair.left.len()));
+        }
+        let is_letter = |symbol: &&mut Symbol| matches!(symbol, Symbol::Letter(_));
+        if random.chance(50) {
+            if let Some(symbol) = pair.right.iter_mut().find(is_letter) {
+                *symbol = Symbol::Letter(random.below(l) as u8);
+            }
+        }
+    }
+}
+
 /// Makes each rule hold, often only just.
 fn plant_rules(random: &mut Random, sheet: &mut Sheet, filling: &Filling) {
     for rule in &mut sheet.rules {
         let above = random.one_of(&[0, 0, 1, 2, 1000]);
         rule.limit = speller::sum(rule, filling) as i16 + above;
+    }
+}
+
+/// Makes each rule, of which there is then at least one, hold only where every field that has a
+/// coefficient is full.
+pub fn only_full(sheet: &mut Sheet) {
+    if sheet.rules.is_empty() {
+        sheet.rules.push(Rule {
+            coefficients: vec![-1; sheet.limits.len()],
+            limit: 0,
+        });
+    }
+    let full = sheet.limits.iter().map(|&limit| vec![0; limit.into()]);
+    let full: Filling = full.collect();
+    for rule in &mut sheet.rules {
+        for coefficient in &mut rule.coefficients {
+            *coefficient = -coefficient.abs();
+        }
+        rule.limit = speller::sum(rule, &full) as i16;
     }
 }
 

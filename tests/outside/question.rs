@@ -3,7 +3,7 @@
 
 use crate::engine;
 use crate::fillings;
-use crate::reader::Pair;
+use crate::reader::{Pair, Sheet};
 use crate::reply::Asked;
 use crate::report::{require, Hex};
 use crate::speller::{self, Filling, Verdict};
@@ -13,6 +13,11 @@ pub struct Question {
     pub asked: Asked,
     /// The library's clause file.
     pub clauses: Vec<u8>,
+    pub tried: Tried,
+}
+
+/// What trying all fillings of a sheet comes to.
+pub struct Tried {
     /// Some filling clashes.
     pub clash: bool,
     /// One of `REASONS`.
@@ -31,27 +36,30 @@ pub const REASONS: [&str; 5] = [
 impl Question {
     pub fn new(bytes: &[u8]) -> Question {
         let asked = Asked::new(bytes);
-        let sheet = &asked.accepted().sheet;
-        let fillings = fillings::all(sheet);
-        let judge = |filling| speller::judge(sheet, filling);
-        let verdicts: Vec<Verdict> = fillings.iter().map(judge).collect();
-        let clash = verdicts.contains(&Verdict::Clash);
-        let breaks = |verdict: &Verdict| matches!(verdict, Verdict::RuleBreaks(_));
-        let agrees = |pair: &Pair| fillings.iter().any(|filling| agrees(pair, filling));
-        let reason = match (clash, verdicts.iter().any(breaks)) {
-            (true, false) => "clash, the rules exclude nothing",
-            (true, true) => "clash, the rules exclude some fillings",
-            (false, true) => "apart, for the rules",
-            (false, false) if sheet.pairs.iter().all(agrees) => "apart, for the pairs together",
-            (false, false) => "apart, for one pair alone",
-        };
         Question {
-            asked,
             clauses: clauses(bytes),
-            clash,
-            reason,
+            tried: try_all(&asked.accepted().sheet),
+            asked,
         }
     }
+}
+
+/// Tries all fillings of a small sheet.
+pub fn try_all(sheet: &Sheet) -> Tried {
+    let fillings = fillings::all(sheet);
+    let judge = |filling| speller::judge(sheet, filling);
+    let verdicts: Vec<Verdict> = fillings.iter().map(judge).collect();
+    let clash = verdicts.contains(&Verdict::Clash);
+    let breaks = |verdict: &Verdict| matches!(verdict, Verdict::RuleBreaks(_));
+    let agrees = |pair: &Pair| fillings.iter().any(|filling| agrees(pair, filling));
+    let reason = match (clash, verdicts.iter().any(breaks)) {
+        (true, false) => "clash, the rules exclude nothing",
+        (true, true) => "clash, the rules exclude some fillings",
+        (false, true) => "apart, for the rules",
+        (false, false) if sheet.pairs.iter().all(agrees) => "apart, for the pairs together",
+        (false, false) => "apart, for one pair alone",
+    };
+    Tried { clash, reason }
 }
 
 fn agrees(pair: &Pair, filling: &Filling) -> bool {

@@ -64,14 +64,7 @@ impl Replies {
 
     /// Compares what a text gives in each kind of buffer.
     pub fn compare(&mut self, asked: &Asked, text: &[u8]) {
-        let fitting = asked.filling_bytes();
-        let longer = fitting + self.random.one_of(&[1, FIELD_BYTES, 54, 256]);
-        let mut rooms = vec![fitting, longer];
-        if fitting > 0 {
-            let any = self.random.below(fitting);
-            let shorter = [0, fitting - 1, fitting - FIELD_BYTES, any];
-            rooms.push(self.random.one_of(&shorter));
-        }
+        let rooms = fillings::rooms(&mut self.random, asked.filling_bytes());
         self.compare_in(asked, text, &rooms);
     }
 

@@ -1,5 +1,4 @@
-//! What is special about a sheet, by name, so that a test of clause files that never meets it
-//! cannot pass.
+//! What is special about a sheet, by name, so that a test that never meets it cannot pass.
 
 use crate::reader::*;
 use crate::writer::{self, Cell};
@@ -7,12 +6,13 @@ use crate::writer::{self, Cell};
 /// A name, and whether it fits a sheet.
 pub struct Shape(&'static str, fn(&Sheet) -> bool);
 
-/// Shapes in two parts.
-pub type Shapes = [&'static [Shape]; 2];
+/// Shapes in parts.
+pub type Shapes = [&'static [Shape]];
 
-/// What may be special about a sheet of any size, and about a small one.
-pub const ALL: Shapes = [&COMMON, &OF_ANY_SIZE];
-pub const OF_SMALL: Shapes = [&COMMON, &SMALL];
+/// What may be special about a sheet of any size, about a small one, and about a large one.
+pub const ALL: &Shapes = &[&COMMON, &OF_ANY_SIZE];
+pub const OF_SMALL: &Shapes = &[&COMMON, &SMALL, &SHARED];
+pub const OF_LARGE: &Shapes = &[&LARGE, &SHARED];
 
 const COMMON: [Shape; 8] = [
     Shape("no fields", |sheet| sheet.limits.is_empty()),
@@ -98,6 +98,42 @@ const SMALL: [Shape; 8] = [
     }),
 ];
 
+const SHARED: [Shape; 3] = [
+    Shape("a rule that needs a full field", |sheet| {
+        any_rule_limit(sheet, |limit, least, _| limit == least && least < 0)
+    }),
+    Shape("a field twice in a template", |sheet| {
+        let twice = |template: &Template, symbol| count(template, symbol) > 1;
+        any_pair(sheet, |pair| {
+            let mut symbols = fields(sheet);
+            symbols.any(|symbol| twice(&pair.left, symbol) || twice(&pair.right, symbol))
+        })
+    }),
+    Shape("a field in several pairs", |sheet| {
+        let has = |pair: &&Pair, symbol| count(&pair.left, symbol) + count(&pair.right, symbol) > 0;
+        let pairs_with = |symbol| sheet.pairs.iter().filter(|pair| has(pair, symbol)).count();
+        fields(sheet).any(|symbol| pairs_with(symbol) > 1)
+    }),
+];
+
+const LARGE: [Shape; 7] = [
+    Shape("eight letters", |sheet| sheet.letters.len() == MOST_LETTERS),
+    Shape("six fields", |sheet| sheet.limits.len() == MOST_FIELDS),
+    Shape("four pairs", |sheet| sheet.pairs.len() == MOST_PAIRS),
+    Shape("four rules", |sheet| sheet.rules.len() == MOST_RULES),
+    Shape("a field of limit 8", |sheet| {
+        sheet.limits.contains(&GREATEST_LIMIT)
+    }),
+    Shape("a template of 12 symbols", |sheet| {
+        let is_long = |template: &Template| template.len() == MOST_SYMBOLS;
+        any_pair(sheet, |pair| is_long(&pair.left) || is_long(&pair.right))
+    }),
+    Shape("a template of width 24", |sheet| {
+        let is_wide = |template: &Template| width(template, &sheet.limits) == GREATEST_WIDTH;
+        any_pair(sheet, |pair| is_wide(&pair.left) || is_wide(&pair.right))
+    }),
+];
+
 /// All names.
 pub fn names(shapes: &Shapes) -> Vec<&'static str> {
     shapes
@@ -116,6 +152,16 @@ pub fn of(sheet: &Sheet, shapes: &Shapes) -> Vec<&'static str> {
         .flatten()
         .filter(|shape| shape.1(sheet));
     fitting.map(|shape| shape.0).collect()
+}
+
+/// The fields, as templates have them.
+fn fields(sheet: &Sheet) -> impl Iterator<Item = Symbol> {
+    (0..sheet.limits.len()).map(|field| Symbol::Field(field as u8))
+}
+
+/// How often a template has a symbol.
+fn count(template: &Template, symbol: Symbol) -> usize {
+    template.iter().filter(|&&other| other == symbol).count()
 }
 
 fn is_unused(sheet: &Sheet, field: usize) -> bool {

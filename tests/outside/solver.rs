@@ -3,7 +3,7 @@
 
 use std::fs;
 use std::io;
-use std::path::Path;
+use std::path::PathBuf;
 use std::process::{Command, ExitStatus};
 
 pub struct Solver {
@@ -66,19 +66,36 @@ pub fn named(name: &str) -> Solver {
     solver.unwrap_or_else(|| panic!("no such solver: {name}"))
 }
 
+/// The solvers' names as a sentence has them.
+pub fn names(solvers: &[Solver]) -> String {
+    let names: Vec<&str> = solvers.iter().map(|solver| solver.name).collect();
+    match &names[..] {
+        [before @ .., last] if !before.is_empty() => format!("{} and {last}", before.join(", ")),
+        _ => names.concat(),
+    }
+}
+
+/// Where the solvers' files are: beside this program.
+fn folder() -> PathBuf {
+    let program = std::env::current_exe().expect("this program has a place");
+    let folder = program.parent().expect("its place is in a folder");
+    folder.to_path_buf()
+}
+
 impl Solver {
     /// Are its replies in document 01's form?
     pub fn has_form(&self) -> bool {
         self.listing == Listing::Printed
     }
 
-    /// Asks about a clause file, for the `turn`th time, with files of its own in `folder`.
-    pub fn ask(&self, turn: usize, folder: &Path, clauses: &[u8]) -> Reply {
-        let reply = self.try_to_ask(turn, folder, clauses);
+    /// Asks about a clause file, for the `turn`th time.
+    pub fn ask(&self, turn: usize, clauses: &[u8]) -> Reply {
+        let reply = self.try_to_ask(turn, clauses);
         reply.unwrap_or_else(|error| panic!("{} cannot be asked: {error}", self.name))
     }
 
-    fn try_to_ask(&self, turn: usize, folder: &Path, clauses: &[u8]) -> io::Result<Reply> {
+    fn try_to_ask(&self, turn: usize, clauses: &[u8]) -> io::Result<Reply> {
+        let folder = folder();
         let question = folder.join(format!("{}.cnf", self.name));
         let filed = folder.join(format!("{}.listing", self.name));
         fs::write(&question, clauses)?;

@@ -37,7 +37,7 @@ impl Test {
             spell: Tally::new("tpl_spell", &spell_answers, (1..=15).chain(20..=26)),
             count: Tally::new("tpl_count", &["counted"], 1..=15),
             line: Tally::new("tpl_line", &KINDS, (1..=15).chain(28..=29)),
-            shapes: Tally::new("counted sheets with", &shapes::names(&shapes::ALL), 0..0),
+            shapes: Tally::new("counted sheets with", &shapes::names(shapes::ALL), 0..0),
         }
     }
 
@@ -120,7 +120,7 @@ impl Test {
         hold(engine::count(&written.sheet), due(status, &counts), case);
         self.count.count(answer);
         if let Ok(sheet) = reader::read(&written.sheet) {
-            for shape in shapes::of(&sheet, &shapes::ALL) {
+            for shape in shapes::of(&sheet, shapes::ALL) {
                 self.shapes.count(Ok(shape));
             }
         }

@@ -3,7 +3,8 @@ use mathlib.Core.Path.{_≡_}
 use mathlib.Core.List.{List, [], _∷_}
 use Prim.Native.Nat.{ℕ}
 use lib.IntN.{ℤ, pos, negℤ}
-use Rattle.model.specs.Calls.{Answer, refused, finished, sized, written}
+use lib.ListN.{length}
+use Rattle.model.specs.Calls.{Answer, refused, finished, sized, written, searching, Clashed}
 
 -- minus the refusal's number; 0 for a call whose values go to a lent array
 abbrev pub returned : Answer → ℤ
@@ -28,3 +29,9 @@ Handed a before r after = (r ≡ returnedNumber (sized a)) × (after ≡ written
 -- a call that hands the answer's values over in a lent buffer, and returns 0
 abbrev pub HandedOver : Answer → List ℕ → ℤ → List ℕ → Type 0
 HandedOver a before r after = (r ≡ returned a) × (after ≡ written a before)
+
+-- a call that searches: 1 with a filling that clashes, and for any other number no byte changes
+pub record Sought (b before : List ℕ) (r : ℤ) (after : List ℕ) : Type 0 where
+  pub returns : r ≡ returnedNumber (searching b (length before))
+  pub clash : r ≡ pos 1 → Clashed b before after
+  pub others : (r ≡ pos 1 → ⊥) → after ≡ before

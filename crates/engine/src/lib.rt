@@ -5,7 +5,7 @@ ghost use Prim.Native.Nat.{_<_};
 ghost use lib.IntN.{pos, negℤ};
 ghost use lib.ListN.{length};
 ghost use Rattle.model.specs.Calls.{reading, checking, spelling, counting, writing, replying};
-ghost use Rattle.engine.specs.Returned.{returned, lentAfter, returnedNumber, Handed, HandedOver};
+ghost use Rattle.engine.specs.Returned.{returned, lentAfter, returnedNumber, Handed, HandedOver, Sought};
 
 // Reads a sheet of any bytes. Returns 0, with its four counts (letters, fields, pairs, rules) in `counts`; or minus
 // document 01's number of the first refusal, with `counts` as it was.
@@ -53,6 +53,19 @@ pub extern "C" fn tpl_spell(
     match substitution::spell(sheet, pair as usize, side as usize, filling, text) {
         substitution::Spelling::Length(n) => n as i64,
         substitution::Spelling::Refused(refusal) => minus(substitution::number(refusal)),
+    }
+}
+
+// Searches a sheet for a clash. Returns 1 for a clash, with a filling that clashes in the first 9 bytes of `filling` for each field and later
+// bytes as they were; 0 where the sheet is apart, or minus document 01's number of the first refusal, with all bytes as they were.
+#[no_mangle]
+pub extern "C" fn tpl_search(sheet: &[u8], filling: &mut [u8]) -> i64
+    ensures { λ r. ⌜ Sought (now (sheet .entry)) (now (filling .entry)) r (now (filling .exit)) ⌝ }
+{
+    match automaton::search(sheet, filling) {
+        automaton::Verdict::Solution => 1,
+        automaton::Verdict::Unsatisfiable => 0,
+        automaton::Verdict::Refused(refusal) => minus(automaton::number(refusal)),
     }
 }
 

@@ -30,6 +30,9 @@ pub struct Field {
 
 pub type Substitution = [Field; FIELDS];
 
+// The lengths of the fields' texts, alone.
+pub type Lengths = [u8; FIELDS];
+
 // What a filling's bytes are refused for, by document 01's numbers 20 to 23.
 pub enum Fault {
     Size,

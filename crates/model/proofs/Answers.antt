@@ -1,4 +1,4 @@
--- Checking, spelling, counting and writing lines, computed: inputs with their answers, most of the damaged ones with two faults at once,
+-- Checking, spelling, counting, writing lines and searching, computed: inputs with their answers, most of the damaged ones with two faults at once,
 -- so that the order of the refusals is a theorem. Assumes nothing.
 use mathlib.Core.Path.{_≡_, refl}
 use mathlib.Core.List.{List, [], _∷_, _++_, map}
@@ -6,13 +6,14 @@ use Prim.Native.Nat.{ℕ}
 use Rattle.model.specs.Lists.{startsWith, same, each, from, all, any, keep, total}
 use Rattle.model.specs.Sheet.{row, times, sides, anEquation, aConstraint, walk, width, signed, opening, read, sheetIn}
 use Rattle.model.specs.Word.{spell, weight, sameWord, equationHolds, constraintHolds, keeps, solves}
+use Rattle.model.specs.Solvable.{allTexts, substitutions, solvable}
 use Rattle.model.specs.Filling.{places, aText, texts, filling}
 use Rattle.model.specs.Report.{report}
 use Rattle.model.specs.Cells.{cells}
 use Rattle.model.specs.Clause.{terms, leftOut, literals, least, spread, sums, placeIds, locationIds, equationIds, constraintIds, listed, ids}
 use Rattle.model.specs.Numbering.{kVariables, sVariables, tVariables, variables, number, clause}
 use Rattle.model.specs.Dimacs.{digits, decimal, problemLine, clauseLine, line}
-use Rattle.model.specs.Calls.{Answer, refused, finished, checking, spellingOf, spelling, written, counting, writingOf, writing}
+use Rattle.model.specs.Calls.{Answer, refused, finished, checking, spellingOf, spelling, written, searchingOf, searching, counting, writingOf, writing}
 use Rattle.model.proofs.Computed.{sheet, P}
 
 -- over A and B the fields X of limit 2 and Y of limit 1, and the pairs XAY, AY and Y, nothing
@@ -151,6 +152,34 @@ lines =
 pub line-answers : map (λ (c : Line). writing (c .on) (c .number) (c .room)) lines ≡ map (λ (c : Line). c .answer) lines
 unfolding startsWith row times sides anEquation aConstraint walk width signed opening read each from any keep total cells terms leftOut literals least spread sums placeIds locationIds equationIds constraintIds listed ids kVariables sVariables tVariables variables number clause digits decimal problemLine clauseLine line writingOf writing
 line-answers = refl
+
+-- Searching: 1 for a clash, 0 for apart.
+pub record Search : Type 0 where
+  pub on : List ℕ
+  pub room : ℕ
+  pub answer : Answer
+
+abbrev pub searches : List Search
+searches =
+    record { on = P; room = 9; answer = finished (1 ∷ []) }
+    -- only empty texts clash
+    ∷ record { on = asked; room = 18; answer = finished (1 ∷ []) }
+    -- only a full field and an empty one, and a longer buffer
+    ∷ record { on = ruled; room = 54; answer = finished (1 ∷ []) }
+    -- no fields: a buffer of none
+    ∷ record { on = fieldless; room = 0; answer = finished (1 ∷ []) }
+    -- P with limit 0
+    ∷ record { on = sheet 1 1 1 0 (65 ∷ 0 ∷ 1 ∷ 1 ∷ 128 ∷ 0 ∷ []); room = 9; answer = finished (0 ∷ []) }
+    -- the buffer, with a clash and apart; the sheet's refusal, with the buffer's
+    ∷ record { on = P; room = 8; answer = refused 27 }
+    ∷ record { on = asked; room = 17; answer = refused 27 }
+    ∷ record { on = sheet 1 1 1 0 (65 ∷ 0 ∷ 1 ∷ 1 ∷ 128 ∷ 0 ∷ []); room = 8; answer = refused 27 }
+    ∷ record { on = leftOver; room = 17; answer = refused 9 }
+    ∷ []
+
+pub search-answers : map (λ (c : Search). searching (c .on) (c .room)) searches ≡ map (λ (c : Search). c .answer) searches
+unfolding startsWith row times sides anEquation aConstraint walk width signed opening read each from all any same spell weight sameWord equationHolds constraintHolds keeps solves allTexts substitutions solvable searchingOf searching
+search-answers = refl
 
 -- What the programs print for document 01's sheet P and X=A: "`clash`, `field 0=A`, `pair 0=A`".
 pub report-P : report (sheetIn (read P)) ((0 ∷ []) ∷ []) ≡

@@ -1,25 +1,23 @@
 -- What is decoded of an assignment: the refusals 37 to 39, and the filling that is handed over. That the filling is legal is `spelled-legal` in
 -- KClauses, of every assignment. Assumes nothing.
-use mathlib.Core.Path.{_≡_, refl, sym, ap}
+use mathlib.Core.Path.{_≡_, sym, ap}
 use mathlib.Core.Bool.{true, false}
-use mathlib.Core.List.{List, [], _∷_}
+use mathlib.Core.List.{List}
 use Prim.Native.Nat.{ℕ, _*_}
 use lib.Dec.{eqb}
 use lib.ListN.{length}
 use borrow.Author.Tests.{eq-eqb}
-use Rattle.model.specs.Lists.{Bytes}
 use Rattle.model.specs.Sheet.{Sheet, limit, Accepted, sheetOf}
 use Rattle.model.specs.Range.{InRange}
-use Rattle.model.specs.Word.{Solves, solves}
+use Rattle.model.specs.Word.{solves}
 use Rattle.model.specs.Filling.{encodeFilling}
 use Rattle.model.specs.Clause.{blank, fields}
 use Rattle.model.specs.Assignment.{Assignment, Satisfies, held, spelled}
 use Rattle.model.specs.Reply.{allSingle, blanksLast, noneAfterBlank}
-use Rattle.model.specs.Calls.{refused, finished, checking, decoding}
+use Rattle.model.specs.Calls.{refused, finished, decoding}
 use Rattle.model.proofs.Keeping.{map-below, all-same, all-below}
-use Rattle.model.proofs.Fillings.{filling-reads, filling-sized}
+use Rattle.model.proofs.Fillings.{legal-sized}
 use Rattle.model.proofs.Words.{solves-in}
-use Rattle.model.proofs.Passed.{solves-passed}
 use Rattle.model.proofs.KClauses.{spelled-legal, blanks-last}
 use Rattle.model.proofs.Operations.{required, same-values}
 use Rattle.model.proofs.Satisfying.{Alike, satisfies-met, values-alike, held-alike, spelled-alike}
@@ -83,12 +81,6 @@ satisfies-decoded b ok w h =
     (all-below _ (fields s) (λ f k. blanks-last s w (met .places) f k))
     (solves-in s (spelled s w) (true-of-it .2))
 
--- What an assignment spells has nine bytes for each field, and they check as a clash if it solves the sheet.
+-- What an assignment spells has nine bytes for each field.
 pub spelled-sized : (s : Sheet) → InRange s → (w : Assignment) → length (encodeFilling (spelled s w)) ≡ 9 * length (s .limits)
-spelled-sized s ok w = filling-sized s (encodeFilling (spelled s w)) (filling-reads s (spelled s w) ok (spelled-legal s w))
-
-pub spelled-checks : (b : List ℕ) → Bytes b → Accepted b → (w : Assignment) → Solves (sheetOf b) (spelled (sheetOf b) w)
-    → checking b (encodeFilling (spelled (sheetOf b) w)) ≡ finished (1 ∷ [])
-spelled-checks b y ok w h =
-    let s = sheetOf b in
-    solves-passed b (encodeFilling (spelled s w)) y (spelled s w) (record { accepted = ok; legal = spelled-legal s w; bytes = refl }) h
+spelled-sized s ok w = legal-sized s (spelled s w) ok (spelled-legal s w)

@@ -2,13 +2,14 @@
 -- Shown.antt turns the test into the statements. Assumes nothing.
 use mathlib.Core.Path.{_≡_, refl}
 use mathlib.Core.Bool.{Bool, true, false, not, _&&_, _||_}
-use mathlib.Core.List.{List, [], _∷_, map}
-use Prim.Native.Nat.{ℕ, zero, suc}
+use mathlib.Core.List.{List, [], _∷_}
+use Prim.Native.Nat.{ℕ}
 use lib.Dec.{leb, ltb}
 use lib.ListN.{length}
-use Rattle.model.specs.Lists.{startsWith, same, each, from, upTo, all}
+use Rattle.model.specs.Lists.{startsWith, same, each, from, all}
 use Rattle.model.specs.Sheet.{Sheet, equation, row, times, sides, anEquation, aConstraint, walk, width, signed, opening, read, isAccepted, sheetIn}
 use Rattle.model.specs.Word.{Substitution, letterBytes, spell, weight, sameWord, equationHolds, constraintHolds, keeps, solves}
+use Rattle.model.specs.Solvable.{allTexts, substitutions, everyLegal}
 use Rattle.model.proofs.Computed.{sheet}
 
 -- What is claimed of a sheet: that a substitution clashes; that it alone does; that it is legal and does not; that none does; that both
@@ -64,18 +65,6 @@ listed =
     -- (k) aXaY, aZXb with X empty, Y=b, Z=a
     ∷ (sheet 2 3 1 0 (97 ∷ 98 ∷ 1 ∷ 1 ∷ 1 ∷ 4 ∷ 4 ∷ 0 ∷ 128 ∷ 0 ∷ 129 ∷ 0 ∷ 130 ∷ 128 ∷ 1 ∷ []) shows clashes ([] ∷ (1 ∷ []) ∷ (0 ∷ []) ∷ []))
     ∷ []
-
--- Every text of at most n of l letters, and every legal substitution.
-unfoldable pub allTexts : ℕ → ℕ → List (List ℕ)
-allTexts l zero = [] ∷ []
-allTexts l (suc n) = [] ∷ each (upTo l) (λ a. map (λ t. a ∷ t) (allTexts l n))
-
-unfoldable pub substitutions : ℕ → List ℕ → List Substitution
-substitutions l [] = [] ∷ []
-substitutions l (n ∷ ns) = each (allTexts l n) (λ t. map (λ g. t ∷ g) (substitutions l ns))
-
-abbrev pub everyLegal : Sheet → List Substitution
-everyLegal s = substitutions (length (s .letters)) (s .limits)
 
 -- The tests.
 unfoldable pub legalTexts : ℕ → List ℕ → Substitution → Bool

@@ -92,11 +92,14 @@ unfolding All each encodeFilling
 filling-length [] h = refl
 filling-length (t ∷ g) h = let more = filling-length g (h .1) in length-append (encodeText t) (each g encodeText) ∙ omega (arith, h .0)
 
+-- "As bytes it is 9 per field"
+pub legal-sized : (s : Sheet) (g : Substitution) → InRange s → Legal s g → length (encodeFilling g) ≡ 9 * length (s .limits)
+legal-sized s g r h = filling-length g (nine-each (s .limits) g (r .limits-in) h) ∙ ap (λ k. 9 * k) (h .one-each)
+
 pub filling-reads : (s : Sheet) (g : Substitution) → InRange s → Legal s g → filling s (encodeFilling g) ≡ got g []
 unfolding filling encodeFilling
 filling-reads s g r h =
-    let n = filling-length g (nine-each (s .limits) g (r .limits-in) h) in
-    rw (eq-eqb (length (encodeFilling g)) (9 * length (s .limits)) (n ∙ ap (λ k. 9 * k) (h .one-each)))
+    rw (eq-eqb (length (encodeFilling g)) (9 * length (s .limits)) (legal-sized s g r h))
     (ap (texts (length (s .letters)) (s .limits)) (sym (append-nil (encodeFilling g))) ∙ texts-reads (length (s .letters)) (s .limits) g [] (r .limits-in) h)
 
 -- Only such bytes are read.

@@ -22,6 +22,7 @@ pub mod Places
 pub mod Seams
 pub mod Words
 pub mod Values
+pub mod Solvable
 pub mod Shown
 pub mod Sums
 pub mod Templates
@@ -48,7 +49,11 @@ pub mod Solutions
 pub mod Satisfying
 pub mod Satisfiable
 pub mod Splitting
+pub mod Searching
 pub mod Decoded
 pub mod Replying
 pub mod Untrusted
+pub mod Ordered
+pub mod FirstRefusals
+pub mod Demands
 pub mod Listings

@@ -10,7 +10,7 @@ use lib.Dec.{eqb}
 use lib.ListN.{length, getD, take, drop, drop-of-length-le, length-append, take-append-drop}
 use lib.Seq.{drop-cons, take-suc}
 use borrow.Author.Tests.{eqb-true, eqb-false, eq-eqb, ne-eqb}
-use Rattle.model.specs.Lists.{same, each, from, upTo, All, all}
+use Rattle.model.specs.Lists.{same, each, from, upTo, All, all, any}
 
 pub never : {P : Type 0} → false ≡ true → P
 never e = let z : _≡_ {A = ℕ} 0 1 = cc in absurd (omega arith)
@@ -176,6 +176,17 @@ module _ {A : Type 0} (p : A → Bool) where
   unfolding All all
   all-in [] h = refl
   all-in (x ∷ xs) h = and-join (h .0) (all-in xs (h .1))
+
+  -- none passes; and one that passes, with what holds of every element
+  pub any-none : (xs : List A) → any p xs ≡ false → All (λ x. p x ≡ false) xs
+  unfolding All any
+  any-none [] e = tt
+  any-none (x ∷ xs) e = by-test (p x) (λ t. never (sym e ∙ or-left (any p xs) t)) (λ t. (t, any-none xs (rw t at e)))
+
+  pub any-some : (Q : A → Type 0) (xs : List A) → All Q xs → any p xs ≡ true → (x : A) × Q x × (p x ≡ true)
+  unfolding All any
+  any-some Q [] h e = never e
+  any-some Q (x ∷ xs) h e = or-cases (p x) (any p xs) e (λ t. (x, h .0, t)) (λ t. any-some Q xs (h .1) t)
 
 -- a test over a list, decided from index i on: one element at a time
 module _ {A : Type 0} (p : A → Bool) (xs : List A) (i : ℕ) (d : A) where

@@ -21,6 +21,11 @@ use Rattle.model.proofs.Words.{same-word-equal, solves-out, solves-in}
 use Rattle.model.proofs.Templates.{template-room}
 use Rattle.model.proofs.Operations.{sheet-accepted, sheet-finished, required, filling-finished, spelling-on, spelling-text, same-values}
 
+-- the answer is clash where the test passes, and else not
+pub verdict-clash : (t : Bool) → verdict t ≡ verdict true → t ≡ true
+verdict-clash true e = refl
+verdict-clash false e = let z : _≡_ {A = ℕ} 0 1 = cc in absurd (omega arith)
+
 -- The bytes m are a filling of the accepted sheet b: those of a legal substitution g.
 pub record FillingOf (b m : List ℕ) (g : Substitution) : Type 0 where
   pub accepted : Accepted b
@@ -42,11 +47,7 @@ module _ (b m : List ℕ) (y : Bytes b) where
     solves-passed k = checking-decides ∙ ap verdict (solves-in (sheetOf b) g k)
 
     pub passed-solves : checking b m ≡ finished (1 ∷ []) → Solves (sheetOf b) g
-    passed-solves e = solves-out (sheetOf b) g (h .legal) (one (solves (sheetOf b) g) (sym checking-decides ∙ e))
-      where
-        one : (t : Bool) → verdict t ≡ finished (1 ∷ []) → t ≡ true
-        one true e = refl
-        one false e = let z : _≡_ {A = ℕ} 0 1 = cc in absurd (omega arith)
+    passed-solves e = solves-out (sheetOf b) g (h .legal) (verdict-clash (solves (sheetOf b) g) (sym checking-decides ∙ e))
 
     -- and else the answer is "no clash"
     pub fails-not-passed : (Solves (sheetOf b) g → ⊥) → checking b m ≡ finished (0 ∷ [])
@@ -110,6 +111,10 @@ module _ (b m : List ℕ) (y : Bytes b) where
       let f = a .is-filling in
       let n = template-room s (accepted-in-range b y (f .accepted)) p (a .is-pair) (a .substitution) (f .legal) side in
       rw (a .is-text, length-map (spell (a .substitution) (template s p side)) (letterOf s)) n
+
+-- The bytes of a solution check as a clash.
+pub solution-checks : (b : List ℕ) → Bytes b → Accepted b → (g : Substitution) → Solves (sheetOf b) g → checking b (encodeFilling g) ≡ finished (1 ∷ [])
+solution-checks b y ok g h = solves-passed b (encodeFilling g) y g (record { accepted = ok; legal = h .is-legal; bytes = refl }) h
 
 -- In a clash a pair's right side spells what its left side does, which is what is printed.
 pub pair-both : (s : Sheet) (g : Substitution) → Solves s g → (p : ℕ) → p < length (s .equations) → pairLine s g p ≡ line pairName p (letterBytes s (spell g (equation s p .right)))

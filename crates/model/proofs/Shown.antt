@@ -1,19 +1,20 @@
 -- Document 01's examples (a) to (k), over `Solves`: what the computed test of Examples.antt shows, for every substitution. Assumes nothing.
 use mathlib.Core.Path.{_≡_, refl, subst}
 use mathlib.Core.Bool.{Bool, true, not, _&&_, _||_}
-use mathlib.Core.List.{List, [], _∷_, map}
-use Prim.Native.Nat.{ℕ, zero, suc, _<_, _≤_}
-use native.Mathlib.Omega.{arith}
+use mathlib.Core.List.{List, [], _∷_}
+use Prim.Native.Nat.{ℕ}
 use lib.Dec.{leb, ltb}
 use lib.ListN.{length}
 use borrow.Author.Tests.{ltb-true, leb-true}
-use Rattle.model.specs.Lists.{same, upTo, All, all}
+use Rattle.model.specs.Lists.{same, All, all}
 use Rattle.model.specs.Sheet.{Sheet, equation, read, isAccepted, Accepted, sheetIn, sheetOf}
 use Rattle.model.specs.Word.{Substitution, Texts, Legal, letterBytes, spell, Solves, solves}
-use Rattle.model.proofs.Lists.{never, and-split, or-cases, same-equal, weaken, all-out, map-out, each-out, below-out}
+use Rattle.model.specs.Solvable.{everyLegal}
+use Rattle.model.proofs.Lists.{never, and-split, or-cases, same-equal, weaken, all-out}
 use Rattle.model.proofs.Words.{solves-out, solves-in}
-use Rattle.model.proofs.Fillings.{first-in, others-in, none-in, one-more-in}
-use Rattle.model.proofs.Examples.{Claim, clashes, only, doesNot, apart, spells, Example, listed, allTexts, substitutions, everyLegal, legalTexts, sameTexts, legalIn, clashesIn, test, passesTest, tests-pass}
+use Rattle.model.proofs.Fillings.{none-in, one-more-in}
+use Rattle.model.proofs.Solvable.{every-legal}
+use Rattle.model.proofs.Examples.{Claim, clashes, only, doesNot, apart, spells, Example, listed, legalTexts, sameTexts, legalIn, clashesIn, test, passesTest, tests-pass}
 
 -- What each claim says.
 abbrev pub Says : Sheet → Claim → Type 0
@@ -58,29 +59,9 @@ same-texts-out (t ∷ g) (u ∷ h) e =
     let q = same-texts-out g h (r .1) in
     cc
 
--- What holds of every listed text or substitution holds of every legal one.
-every-text : (P : List ℕ → Type 0) (l n : ℕ) → All P (allTexts l n) → (t : List ℕ) → length t ≤ n → All (λ a. a < l) t → P t
-unfolding allTexts All
-every-text P l zero h [] k i = h .0
-every-text P l zero h (a ∷ t) k i = absurd (omega arith)
-every-text P l (suc n) h [] k i = h .0
-every-text P l (suc n) h (a ∷ t) k i =
-    every-text (λ t. P (a ∷ t)) l n
-    (map-out P (λ t. a ∷ t) (allTexts l n) (below-out (λ a. All P (map (λ t. a ∷ t) (allTexts l n))) l (each-out P (upTo l) (λ a. map (λ t. a ∷ t) (allTexts l n)) (h .1)) a (i .0)))
-    t (omega arith) (i .1)
-
-every-substitution : (P : Substitution → Type 0) (l : ℕ) (ns : List ℕ) → All P (substitutions l ns) → (g : Substitution) → Texts l ns g → P g
-unfolding substitutions All
-every-substitution P l [] h [] e = h .0
-every-substitution P l [] h (t ∷ g) e = absurd (omega arith)
-every-substitution P l (n ∷ ns) h [] e = absurd (omega arith)
-every-substitution P l (n ∷ ns) h (t ∷ g) e =
-    let first = first-in e in
-    let here = every-text (λ t. All P (map (λ g. t ∷ g) (substitutions l ns))) l n (each-out P (allTexts l n) (λ t. map (λ g. t ∷ g) (substitutions l ns)) h) t (first .no-longer) (first .over-letters) in
-    every-substitution (λ g. P (t ∷ g)) l ns (map-out P (λ g. t ∷ g) (substitutions l ns) here) g (others-in e)
-
-every-legal : (s : Sheet) (p : Substitution → Bool) → all p (everyLegal s) ≡ true → (g : Substitution) → Legal s g → p g ≡ true
-every-legal s p e g ok = every-substitution (λ g. p g ≡ true) (length (s .letters)) (s .limits) (all-out p (everyLegal s) e) g ok
+-- a test that every legal substitution passes
+all-legal : (s : Sheet) (p : Substitution → Bool) → all p (everyLegal s) ≡ true → (g : Substitution) → Legal s g → p g ≡ true
+all-legal s p e g ok = every-legal s (λ g. p g ≡ true) (all-out p (everyLegal s) e) g ok
 
 -- a solution, where the test says that there is none
 no-solution : (s : Sheet) (g : Substitution) → not (solves s g) ≡ true → Solves s g → ⊥
@@ -93,12 +74,12 @@ test-shows s (only g) e =
     let r = and-split (clashesIn s g) (all (λ h. not (solves s h) || sameTexts h g) (everyLegal s)) e in (
       clash-out s g (r .0),
       λ h sol.
-          or-cases (not (solves s h)) (sameTexts h g) (every-legal s (λ h. not (solves s h) || sameTexts h g) (r .1) h (sol .is-legal))
+          or-cases (not (solves s h)) (sameTexts h g) (all-legal s (λ h. not (solves s h) || sameTexts h g) (r .1) h (sol .is-legal))
           (λ n. absurd (no-solution s h n sol))
           (λ q. same-texts-out h g q),
     )
 test-shows s (doesNot g) e = let r = and-split (legalIn s g) (not (solves s g)) e in (legal-out s g (r .0), no-solution s g (r .1))
-test-shows s apart e = λ h sol. no-solution s h (every-legal s (λ h. not (solves s h)) e h (sol .is-legal)) sol
+test-shows s apart e = λ h sol. no-solution s h (all-legal s (λ h. not (solves s h)) e h (sol .is-legal)) sol
 test-shows s (spells g w) e =
     let left = letterBytes s (spell g (equation s 0 .left)) in
     let right = letterBytes s (spell g (equation s 0 .right)) in

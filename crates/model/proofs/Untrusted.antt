@@ -15,7 +15,8 @@ use Rattle.model.specs.Calls.{Answer, refused, finished, checking, reply
 use Rattle.model.proofs.Known.{accepted-in-range}
 use Rattle.model.proofs.Satisfiable.{assign, complete, faithful, sound}
 use Rattle.model.proofs.Operations.{not-finished}
-use Rattle.model.proofs.Decoded.{spelled-checks, spelled-sized}
+use Rattle.model.proofs.Passed.{solution-checks}
+use Rattle.model.proofs.Decoded.{spelled-sized}
 use Rattle.model.proofs.Listings.{has-listing}
 use Rattle.model.proofs.Replying.{replying-answered, accepts-solves, replying-lists, replying-long}
 
@@ -71,7 +72,7 @@ module _ (b t before after : List ℕ) (answer : Answer) (call : HandsOver (repl
     accepted-clashes e =
         let h = taken e in
         let a = replying-answered b t (length before) (h .is) in
-        (ap (checking b) (a .decodes .is) ∙ spelled-checks b y (a .accepted) _ (accepts-solves b t (length before) a), h .others)
+        (ap (checking b) (a .decodes .is) ∙ solution-checks b y (a .accepted) _ (accepts-solves b t (length before) a), h .others)
 
     -- "Take any assignment that satisfies them, and any text of at most 65,536 bytes that lists it in the reply form of document 01. With a long
     -- enough buffer that text is accepted, and the filling handed over is exactly the one the assignment spells, and it clashes."

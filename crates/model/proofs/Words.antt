@@ -45,11 +45,11 @@ to-test : (b : Bool) → T b → b ≡ true
 to-test true t = refl
 to-test false t = absurd t
 
-constraint-out : (s : Sheet) (g : Substitution) (r : Constraint) → constraintHolds s g r ≡ true → ConstraintHolds s g r
+pub constraint-out : (s : Sheet) (g : Substitution) (r : Constraint) → constraintHolds s g r ≡ true → ConstraintHolds s g r
 unfolding constraintHolds
 constraint-out s g r e = record { le = of-test (leZ (weight r g (length (s .limits))) (r .most)) e }
 
-constraint-in : (s : Sheet) (g : Substitution) (r : Constraint) → ConstraintHolds s g r → constraintHolds s g r ≡ true
+pub constraint-in : (s : Sheet) (g : Substitution) (r : Constraint) → ConstraintHolds s g r → constraintHolds s g r ≡ true
 unfolding constraintHolds
 constraint-in s g r h = to-test (leZ (weight r g (length (s .limits))) (r .most)) (h .le)
 

@@ -2,6 +2,7 @@ pub mod Lists
 pub mod Sheet
 pub mod Range
 pub mod Word
+pub mod Solvable
 pub mod Cells
 pub mod Filling
 pub mod Clause
@@ -12,3 +13,4 @@ pub mod Reply
 pub mod Count
 pub mod Calls
 pub mod Report
+pub mod Rules

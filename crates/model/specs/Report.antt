@@ -1,14 +1,17 @@
--- The text that the programs print: for a clash the search and reply programs, for a refusal each. "prints `clash`, `field 0=A`, `pair 0=A`: each field's number and text,
--- each pair's number and text." Every line ends in 0x0A. Fields and pairs are few, so that a number is one digit.
+-- The text that the programs print: for a clash the search and reply programs, where a sheet is apart the search program, for a refusal
+-- each. "prints `clash`, `field 0=A`, `pair 0=A`: each field's number and text, each pair's number and text." Every line ends in 0x0A. Fields
+-- and pairs are few, so that a number is one digit.
+use mathlib.Core.Path.{_≡_}
+use mathlib.Core.Bool.{true, false}
 use mathlib.Core.List.{List, [], _∷_, _++_}
 use Prim.Native.Nat.{ℕ, _+_, _*_}
 use lib.ListN.{length}
 use Rattle.model.specs.Lists.{each, upTo}
-use Rattle.model.specs.Sheet.{Sheet, equation}
+use Rattle.model.specs.Sheet.{Sheet, equation, sheetOf}
 use Rattle.model.specs.Word.{Substitution, text, spell, letterBytes}
 use Rattle.model.specs.Filling.{filling, substitutionIn}
 use Rattle.model.specs.Dimacs.{decimal}
-use Rattle.model.specs.Calls.{Answer, refused, finished}
+use Rattle.model.specs.Calls.{Answer, refused, finished, verdict, checking, searching}
 
 -- "clash", and a line end
 abbrev pub clashLine : List ℕ
@@ -53,3 +56,20 @@ refusedLine n = (114 ∷ 101 ∷ 102 ∷ 117 ∷ 115 ∷ 101 ∷ 100 ∷ 32 ∷ 
 abbrev pub printed : Sheet → Answer → List ℕ
 printed s (refused n) = refusedLine n
 printed s (finished m) = report s (substitutionIn (filling s m))
+
+-- "Otherwise it prints `apart`", and a line end
+abbrev pub apartLine : List ℕ
+apartLine = 97 ∷ 112 ∷ 97 ∷ 114 ∷ 116 ∷ 10 ∷ []
+
+-- The report of a filling that clashes: of some bytes that check as a clash of the sheet b.
+pub record Reported (b text : List ℕ) : Type 0 where
+  pub bytes : List ℕ
+  pub clashes : checking b bytes ≡ verdict true
+  pub is-report : text ≡ report (sheetOf b) (substitutionIn (filling (sheetOf b) bytes))
+
+-- What the search program prints for the sheet b, by the answer of a search with room for any filling, 54 bytes. "Which clash is given is
+-- free; that it clashes is not."
+pub record SearchPrints (b text : List ℕ) : Type 0 where
+  pub refusal : (n : ℕ) → searching b 54 ≡ refused n → text ≡ refusedLine n
+  pub apart : searching b 54 ≡ verdict false → text ≡ apartLine
+  pub clash : searching b 54 ≡ verdict true → Reported b text

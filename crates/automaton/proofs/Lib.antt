@@ -1,0 +1,5 @@
+pub mod Words
+pub mod Instances
+pub mod Flat
+pub mod Right
+pub mod AllAsked

@@ -1,0 +1,98 @@
+-- `automaton::hand_over` meets its contract: what is found solves the sheet, so that it passes the check; and where nothing is found nothing
+-- solves it. Assumes nothing.
+use mathlib.Core.Path.{sym, ap, _∙_}
+use mathlib.Core.List.{_++_}
+use Prim.Native.Nat.{_*_}
+use native.Mathlib.Omega.{arith}
+use lib.ListN.{take, drop}
+use borrow.Author.Needs.{needs}
+use borrow.Author.Tests.{not-true, not-false}
+use Rattle.model.specs.Sheet.{sheetOf}
+use Rattle.model.specs.Word.{Solves}
+use Rattle.model.specs.Filling.{encodeFilling}
+use Rattle.model.proofs.Lists.{never}
+use Rattle.model.proofs.Words.{solves-in}
+use Rattle.sheet.proofs.Known.{lent-bytes}
+use Rattle.model.proofs.Small.{fields-few}
+use Rattle.model.proofs.Searching.{search-apart, search-clash}
+use Rattle.fields.specs.Memory.{textsOf, meaning, Held}
+use Rattle.automaton.proofs.AllAsked.{whole-asks, answers-solve, solves-answers}
+use Rattle.automaton.proofs.hand_over.Statement.{statement}
+use Rattle.automaton.proofs.hand_over.Tie as tie
+
+whole-requires : tie.Need-whole-requires
+whole-requires c κs = search needs
+
+find-requires : tie.Need-find-requires
+find-requires c κs =
+    let start = c .before .before .before in
+    (start .pre .0, whole-asks (sheetOf (start .args .sheet .now)) (c .whole .result) (c .whole .ensures))
+
+returns : tie.Need-returns
+returns c =
+    let at-find = c .before .before in
+    let start = at-find .before .before .before .before in
+    let b = start .args .sheet .now in
+    search-apart b (start .args .buf .now) (start .pre .0 .0) (start .pre .1) (λ g h.
+    at-find .find .ensures .none (not-true _ (c .if1 .taken)) g (solves-answers b (start .pre .0) (at-find .before .whole .result) (at-find .before .whole .ensures) g h))
+
+-- what is found holds a solution
+abbrev start : tie.Else1 → tie.Start
+start c = c .before .before .before .before .before .before
+
+found-held : (c : tie.Else1) → Held (start c .args .sheet .now) (c .before .before .find .result .substitution)
+found-held c = c .before .before .find .ensures .held (not-false _ (c .if1 .left))
+
+found-solves : (c : tie.Else1) → Solves (sheetOf (start c .args .sheet .now)) (meaning (start c .args .sheet .now) (c .before .before .find .result .substitution))
+found-solves c =
+    let at-whole = c .before .before .before in
+    answers-solve (start c .args .sheet .now) (start c .pre .0) (at-whole .whole .result) (at-whole .whole .ensures) _ (c .before .before .find .ensures .answer (not-false _ (c .if1 .left)))
+
+solves-requires : tie.Need-solves-requires
+solves-requires c κs = found-held (c .before)
+
+returns-2 : tie.Need-returns-2
+returns-2 c =
+    let found = c .before .before .before in
+    let fails = sym (c .before .solves .ensures) ∙ not-true _ (c .if2 .taken) in
+    never (sym fails ∙ solves-in _ _ (found-solves found))
+
+fields-requires : tie.Need-fields-requires
+fields-requires c κs = search needs
+
+store-requires : tie.Need-store-requires
+store-requires c κs =
+    let found = c .before .before .before .before .before in
+    let s = start found in
+    let few = fields-few (sheetOf (s .args .sheet .now)) (s .pre .0 .1) in
+    (found-held found .whole, found-held found .six, omega (arith, c .fields .ensures), omega (arith, c .fields .ensures, s .pre .1))
+
+same-length : tie.Need-same-length
+same-length c = search needs
+
+returns-3 : tie.Need-returns-3
+returns-3 c =
+    let at-store = c .before .before in
+    let at-fields = at-store .before in
+    let found = at-fields .before .before .before .before .before in
+    let s = start found in
+    let b = s .args .sheet .now in
+    let buf = s .args .buf .now in
+    let g = found .before .before .find .result .substitution in
+    let known = found .before .before .before .before .before .shared-slice-known in
+    search-clash b buf (at-store .store .last .0) (lent-bytes b (known .given)) (s .pre .0 .0) (s .pre .1) (meaning b g) (found-solves found)
+    (at-store .store .ensures ∙ ap (λ k. encodeFilling (take k (textsOf g)) ++ drop (9 * k) buf) (at-fields .fields .ensures))
+
+pub hand-over-spec : {M : Type 1} → statement M
+hand-over-spec =
+    tie.close
+    (tie.spec
+    whole-requires
+    find-requires
+    returns
+    solves-requires
+    returns-2
+    fields-requires
+    store-requires
+    same-length
+    returns-3)

@@ -1,0 +1,153 @@
+-- `search::answer` meets its contract: the line of a refusal, `apart`, or the report of the filling that was handed over. Assumes nothing.
+use mathlib.Core.Path.{refl, sym, ap, _∙_}
+use Prim.Native.Nat.{_*_}
+use native.Mathlib.Omega.{arith}
+use lib.ListN.{take, replicate}
+use lib.Seq.{length-take-le}
+use borrow.Author.Needs.{needs}
+use Rattle.model.specs.Sheet.{sheetOf}
+use Rattle.model.specs.Range.{Admitted}
+use Rattle.model.specs.Filling.{filling, substitutionIn}
+use Rattle.model.specs.Calls.{refused, Clashed}
+use Rattle.model.specs.Report.{refusedLine, apartLine, report}
+use Rattle.model.proofs.Known.{accepted-in-range}
+use Rattle.model.proofs.Searching.{clash-accepted, clash-taken, prints-refused, prints-apart, prints-clash}
+use Rattle.sheet.proofs.Known.{lent-bytes}
+use Rattle.automaton.specs.Answer.{searched}
+use Rattle.search.proofs.answer.Statement.{statement}
+use Rattle.search.proofs.answer.Tie as tie
+
+slice-aggregate-search : tie.Need-slice-aggregate-search
+slice-aggregate-search c = search needs
+
+search-requires : tie.Need-search-requires
+search-requires c κs = search needs
+
+enum-known-refusal : tie.Need-enum-known-refusal
+enum-known-refusal c = search needs
+
+number-requires : tie.Need-number-requires
+number-requires c κs = search needs
+
+refusal-requires : tie.Need-refusal-requires
+refusal-requires c κs = search needs
+
+enum-told : tie.Need-enum-told
+enum-told c = search needs
+
+slice-aggregate-put : tie.Need-slice-aggregate-put
+slice-aggregate-put c = search needs
+
+put-requires : tie.Need-put-requires
+put-requires c κs = search needs
+
+enum-told-2 : tie.Need-enum-told-2
+enum-told-2 c = search needs
+
+-- there is a clash: it was handed over, so the sheet is accepted
+abbrev start : tie.After-enum-told2 → tie.Start
+start c = c .before .before .before .before .before .before .before
+
+clash : (c : tie.After-enum-told2) → Clashed (start c .args .sheet .now) (replicate 54 0) (c .before .before .before .search .last .1 .0)
+clash c = c .before .before .before .search .ensures .clash (ap searched (c .enum-told2 .given .1))
+
+known : (c : tie.After-enum-told2) → Admitted (start c .args .sheet .now)
+known c =
+    let b = start c .args .sheet .now in
+    let ok = clash-accepted b (replicate 54 0) _ (clash c) in
+    (ok, accepted-in-range b (lent-bytes b (c .before .before .before .before .before .before .shared-slice-known .given)) ok)
+
+fields-requires : tie.Need-fields-requires
+fields-requires c κs = known c
+
+mul-size : tie.Need-mul-size
+mul-size c = let n = known (c .before) .1 .counts-in .of-fields in omega (arith, c .fields .ensures)
+
+array-share-prefix-filling : tie.Need-array-share-prefix-filling
+array-share-prefix-filling c = let n = known (c .before) .1 .counts-in .of-fields in omega (arith, c .fields .ensures)
+
+slice-aggregate-write : tie.Need-slice-aggregate-write
+slice-aggregate-write c =
+    let n = known (c .before .before) .1 .counts-in .of-fields in
+    sym (length-take-le (9 * c .before .fields .result) _ (omega (arith, c .before .fields .ensures)))
+
+write-requires : tie.Need-write-requires
+write-requires c κs =
+    let at-fields = c .before .before in
+    let at-told = at-fields .before in
+    let b = start at-told .args .sheet .now in
+    (rw (at-fields .fields .ensures) (clash-taken b (replicate 54 0) _ (clash at-told)), omega (arith, start at-told .pre))
+
+same-length : tie.Need-same-length
+same-length c = search needs
+
+returns : tie.Need-returns
+returns c =
+    let at-number = c .before .before .before in
+    let at-refusal = at-number .before .before .before in
+    let at-search = at-refusal .before .before .before in
+    let b = at-search .before .before .before .before .args .sheet .now in
+    let told = sym (at-search .search .ensures .answers) ∙ ap searched (at-refusal .refusal .given .1) in
+    record {
+      text = refusedLine (at-number .number .result);
+      admitted = prints-refused b (told ∙ ap refused (sym (at-number .number .ensures)));
+      put = c .before .before .refusal2 .ensures .0;
+    }
+
+same-length-2 : tie.Need-same-length-2
+same-length-2 c = search needs
+
+returns-2 : tie.Need-returns-2
+returns-2 c =
+    let at-told = c .before .before .before .before .before in
+    let at-search = at-told .before .before .before in
+    let b = at-search .before .before .before .before .args .sheet .now in
+    record {
+      text = apartLine;
+      admitted = prints-apart b (sym (at-search .search .ensures .answers) ∙ ap searched (at-told .enum-told .given .1));
+      put = c .before .before .put .ensures;
+    }
+
+same-length-3 : tie.Need-same-length-3
+same-length-3 c = search needs
+
+returns-3 : tie.Need-returns-3
+returns-3 c =
+    let at-write = c .before .before in
+    let at-fields = at-write .before .before .before in
+    let at-told = at-fields .before in
+    let at-search = at-told .before .before .before in
+    let b = start at-told .args .sheet .now in
+    let m = take (9 * at-fields .fields .result) (at-search .search .last .1 .0) in
+    let text = report (sheetOf b) (substitutionIn (filling (sheetOf b) m)) in
+    record {
+      text = text;
+      admitted = prints-clash b text (sym (at-search .search .ensures .answers) ∙ ap searched (at-told .enum-told2 .given .1))
+          (record { bytes = m; clashes = rw (at-fields .fields .ensures) (clash-taken b (replicate 54 0) _ (clash at-told)); is-report = refl });
+      put = at-write .write .ensures;
+    }
+
+pub answer-spec : {M : Type 1} → statement M
+answer-spec =
+    tie.close
+    (tie.spec
+    slice-aggregate-search
+    search-requires
+    enum-known-refusal
+    number-requires
+    refusal-requires
+    enum-told
+    slice-aggregate-put
+    put-requires
+    enum-told-2
+    fields-requires
+    mul-size
+    array-share-prefix-filling
+    slice-aggregate-write
+    write-requires
+    same-length
+    returns
+    same-length-2
+    returns-2
+    same-length-3
+    returns-3)

@@ -1,0 +1,75 @@
+//! Makes small sheets, of which all fillings can be tried: many clash, many are apart, each for
+//! many reasons.
+
+use crate::fillings;
+use crate::planted;
+use crate::random::Random;
+use crate::reader::{Rule, Sheet};
+use crate::sheets;
+use crate::writer;
+
+const NO_PLACES_PERCENT: usize = 25;
+const SPOILED_PERCENT: usize = 35;
+const NEW_LIMIT_PERCENT: usize = 25;
+
+/// A small sheet. In most one filling was made to clash, or two to fit some pairs each; then some
+/// were spoiled, and some rules came to have another limit.
+pub fn sheet(random: &mut Random) -> Sheet {
+    let mut sheet = plain(random);
+    match random.below(6) {
+        0 => {}
+        1 | 2 => {
+            let full = [(); 2].map(|()| fillings::full(random, &sheet));
+            planted::plant_two(random, &mut sheet, &full);
+        }
+        _ => {
+            let filling = fillings::legal(random, &sheet);
+            planted::plant(random, &mut sheet, &filling);
+        }
+    }
+    if random.chance(SPOILED_PERCENT) {
+        planted::spoil(random, &mut sheet);
+    }
+    for rule in &mut sheet.rules {
+        if random.chance(NEW_LIMIT_PERCENT) {
+            rule.limit = near_a_sum(random, rule, &sheet.limits);
+        }
+    }
+    sheet
+}
+
+/// A small sheet with a rule that only full fields keep, and in most cases with a full filling that
+/// clashes.
+pub fn far(random: &mut Random) -> Sheet {
+    let mut sheet = plain(random);
+    let full = fillings::full(random, &sheet);
+    planted::plant(random, &mut sheet, &full);
+    if random.chance(SPOILED_PERCENT) {
+        planted::spoil(random, &mut sheet);
+    }
+    planted::only_full(&mut sheet);
+    sheet
+}
+
+/// A small sheet; few have no place for a letter in any field.
+fn plain(random: &mut Random) -> Sheet {
+    loop {
+        let sheet = if random.chance(50) {
+            sheets::of_few_fillings(random)
+        } else {
+            sheets::small(random)
+        };
+        let has_places = sheet.limits.iter().any(|&limit| limit > 0);
+        if has_places || random.chance(NO_PLACES_PERCENT) {
+            return sheet;
+        }
+    }
+}
+
+/// A limit for a rule: one of the sums that there are, or just below the least.
+pub fn near_a_sum(random: &mut Random, rule: &Rule, limits: &[u8]) -> i16 {
+    let sums = writer::sums(rule, limits, limits.len());
+    let (least, greatest) = (*sums.start(), *sums.end());
+    let above = random.below((greatest - least + 2) as usize);
+    (least - 1) as i16 + above as i16
+}
