@@ -10,7 +10,7 @@ use Rattle.fields.specs.declared.Field.{Field}
 use Rattle.unification.specs.declared.Found.{Found}
 use Rattle.unification.specs.Names.{found}
 use Rattle.walk.specs.Walk.{onward, walkOf}
-use Rattle.attempt.specs.Attempt.{equations, total, solveOf}
+use Rattle.attempt.specs.Attempt.{equations, cellTotal, solveOf}
 
 -- the equations are used up
 pub solve-end : (x w : List ℕ) (g : List Field) → length w < 2 → found g ≡ solveOf (equations x w) g
@@ -19,8 +19,8 @@ solve-end x [] g h = refl
 solve-end x (m ∷ []) g h = refl
 solve-end x (m ∷ n ∷ w) g h = absurd (omega arith)
 
-pub total-next : (w : List ℕ) → 2 ≤ length w → total w ≡ getD w 0 0 + getD w 1 0 + total (drop 2 w)
-unfolding total
+pub total-next : (w : List ℕ) → 2 ≤ length w → cellTotal w ≡ getD w 0 0 + getD w 1 0 + cellTotal (drop 2 w)
+unfolding cellTotal
 total-next [] h = absurd (omega arith)
 total-next (m ∷ []) h = absurd (omega arith)
 total-next (m ∷ n ∷ w) h = refl

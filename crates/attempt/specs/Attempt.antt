@@ -22,10 +22,10 @@ equations x (m ∷ []) = []
 equations x (m ∷ n ∷ w) = record { left = take m x; right = take n (drop m x) } ∷ equations (drop (m + n) x) w
 
 -- the cells that the widths ask for
-unfoldable pub total : List ℕ → ℕ
-total [] = 0
-total (m ∷ []) = 0
-total (m ∷ n ∷ w) = m + n + total w
+unfoldable pub cellTotal : List ℕ → ℕ
+cellTotal [] = 0
+cellTotal (m ∷ []) = 0
+cellTotal (m ∷ n ∷ w) = m + n + cellTotal w
 
 -- the start: a place within its field's length holds its own name, and one past it is blank
 abbrev pub nameOf : ℕ → ℕ → ℕ → ℕ

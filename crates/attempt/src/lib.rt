@@ -13,7 +13,7 @@ ghost use mathlib.Core.Path.{_≡_};
 ghost use Prim.Native.Nat.{_<_, _≤_};
 ghost use lib.ListN.{length};
 ghost use Rattle.walk.specs.Walk.{Cells};
-ghost use Rattle.attempt.specs.Attempt.{equations, total, nameOf, freshOf, startOf, solveOf, attemptOf};
+ghost use Rattle.attempt.specs.Attempt.{equations, cellTotal, nameOf, freshOf, startOf, solveOf, attemptOf};
 
 // Place c of field f, whose length is n: its name, or 255 past the length.
 fn name(f: u8, n: u8, c: u8) -> u8
@@ -63,7 +63,7 @@ fn start(n: Lengths) -> Substitution
 
 // Walks the equations one after the other. x has their cells, and w their widths, left and right.
 fn solve(x: &[u8], w: &[u8], g: Substitution) -> Found
-    requires { ⌜ Cells (now x) × (total (now w) ≤ length (now x)) ⌝ }
+    requires { ⌜ Cells (now x) × (cellTotal (now w) ≤ length (now x)) ⌝ }
     ensures { λ r. ⌜ r ≡ solveOf (equations (now (x .entry)) (now (w .entry))) g ⌝ }
 {
     if w.len() < 2 {
@@ -84,7 +84,7 @@ fn solve(x: &[u8], w: &[u8], g: Substitution) -> Found
 
 // The attempt at the lengths n.
 pub fn attempt(x: &[u8], w: &[u8], n: Lengths) -> Found
-    requires { ⌜ Cells (now x) × (total (now w) ≤ length (now x)) ⌝ }
+    requires { ⌜ Cells (now x) × (cellTotal (now w) ≤ length (now x)) ⌝ }
     ensures { λ r. ⌜ r ≡ attemptOf (equations (now (x .entry)) (now (w .entry))) n ⌝ }
 {
     let r = solve(x, w, start(n));

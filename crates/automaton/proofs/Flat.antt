@@ -20,7 +20,7 @@ use Rattle.model.proofs.Valid.{CellIn, cells-in}
 use Rattle.shape.specs.Bytes.{cellByte}
 use Rattle.unification.specs.Names.{Below}
 use Rattle.walk.specs.Walk.{Cells}
-use Rattle.attempt.specs.Attempt.{Equation, equations, total}
+use Rattle.attempt.specs.Attempt.{Equation, equations, cellTotal}
 use Rattle.attempt.proofs.Right.{AllLetters}
 use Rattle.inequalities.specs.Asked.{asked}
 use Rattle.inequalities.proofs.Asked.{asked-none, asked-next}
@@ -40,8 +40,8 @@ equations-again (e ∷ es) =
     let others = drop-at (e .left ++ e .right) rest (length (e .left) + length (e .right)) (length-append (e .left) (e .right)) in
     rw (left, right, others, equations-again es)
 
-pub total-widths : (es : List Equation) → total (widths es) ≡ length (flatCells es)
-unfolding total flatCells widths each
+pub total-widths : (es : List Equation) → cellTotal (widths es) ≡ length (flatCells es)
+unfolding cellTotal flatCells widths each
 total-widths [] = refl
 total-widths (e ∷ es) = let ih = total-widths es in let a = length-append (e .left ++ e .right) (each es (λ e. e .left ++ e .right)) in let b = length-append (e .left) (e .right) in omega arith
 

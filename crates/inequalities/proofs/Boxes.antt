@@ -1,37 +1,32 @@
 -- Rows over a box of lengths: where one is hopeless no lengths in the box keep them all, and a box of one vector is hopeless or keeps them.
 -- A side grows with the lengths, since nothing in it is negative. Assumes nothing.
-use mathlib.Core.Path.{_≡_, refl, sym, ap, _∙_}
-use mathlib.Core.Bool.{Bool, true, false, _||_}
-use mathlib.Core.List.{List, [], _∷_, map}
+use mathlib.Core.Path.{_≡_, sym, ap, _∙_}
+use mathlib.Core.Bool.{Bool, true, false}
+use mathlib.Core.List.{List}
 use Prim.Native.Nat.{ℕ, _+_, _*_, _<_, _≤_}
 use native.Mathlib.Nat.{mul-le-mul-left}
 use native.Mathlib.Omega.{arith}
 use lib.ListN.{getD, drop}
 use borrow.Author.Tests.{ltb-true, ltb-false, le-leb, lt-leb}
 use Rattle.model.specs.Lists.{upTo, any}
-use Rattle.model.proofs.Lists.{never, by-test}
-use Rattle.model.proofs.Keeping.{all-below, all-not, any-in, any-out, total-same}
+use Rattle.model.proofs.Lists.{never, by-test, any-none, any-some, below-out}
+use Rattle.model.proofs.Keeping.{below-in, all-below, all-not, total-same}
 use Rattle.model.proofs.Small.{total-grows}
 use Rattle.inequalities.specs.Rows.{sideSum, rowHolds, hopelessRow, rowsHold, hopelessOf, Within}
 
 -- whether a test passes at some number below n
-any-map : {A B : Type 0} (p : B → Bool) (h : A → B) (xs : List A) → any p (map h xs) ≡ any (λ x. p (h x)) xs
-unfolding any
-any-map p h [] = refl
-any-map p h (x ∷ xs) = ap (λ b. p (h x) || b) (any-map p h xs)
-
 module _ (t : ℕ → Bool) (n : ℕ) where
-  some-in : (i : ℕ) → i < n → t i ≡ true → any t (upTo n) ≡ true
-  some-in i h e = sym (any-map t (λ k. k) (upTo n)) ∙ any-in t (λ k. k) 0 n i (omega arith) (omega arith) e
+  none-out : any t (upTo n) ≡ false → (i : ℕ) → i < n → t i ≡ false
+  none-out e = below-out (λ i. t i ≡ false) n (any-none t (upTo n) e)
 
   some-out : any t (upTo n) ≡ true → (i : ℕ) × (i < n) × (t i ≡ true)
-  some-out e = let r = any-out t (λ k. k) 0 n (any-map t (λ k. k) (upTo n) ∙ e) in (r .0, omega (arith, r .1), r .2)
+  some-out e = any-some t (λ i. i < n) (upTo n) (below-in (λ i. i < n) n (λ i h. h)) e
+
+  some-in : (i : ℕ) → i < n → t i ≡ true → any t (upTo n) ≡ true
+  some-in i h e = by-test (any t (upTo n)) (λ k. k) (λ k. never (sym (none-out k i h) ∙ e))
 
   none-in : ((i : ℕ) → i < n → t i ≡ false) → any t (upTo n) ≡ false
   none-in h = by-test (any t (upTo n)) (λ e. let r = some-out e in never (sym (h (r .0) (r .1)) ∙ r .2)) (λ e. e)
-
-  none-out : any t (upTo n) ≡ false → (i : ℕ) → i < n → t i ≡ false
-  none-out e i h = by-test (t i) (λ k. never (sym e ∙ some-in i h k)) (λ k. k)
 
 -- A side at greater lengths, and at the same lengths.
 side-grows : (xs m n : List ℕ) → ((f : ℕ) → f < 6 → getD m f 0 ≤ getD n f 0) → sideSum xs m ≤ sideSum xs n

@@ -15,7 +15,7 @@ ghost use Prim.Native.Nat.{_+_, _*_, _<_, _≤_};
 ghost use lib.ListN.{length};
 ghost use Rattle.inequalities.specs.Rows.{Within};
 ghost use Rattle.walk.specs.Walk.{Cells};
-ghost use Rattle.attempt.specs.Attempt.{equations, total};
+ghost use Rattle.attempt.specs.Attempt.{equations, cellTotal};
 ghost use Rattle.lengths.specs.Lengths.{sumOf, fitsIn, Ranges, Settled, Box, Above, Before, Sooner, First, tryOf};
 
 // What the type says of six lengths, for the proofs of functions that call it: they are handed back unchanged.
@@ -73,7 +73,7 @@ fn in_box(
     t: usize,
     k: usize,
 ) -> Found
-    requires { ⌜ Cells (now x) × (total (now w) ≤ length (now x)) × (14 * count ≤ length (now rows)) × Ranges lo hi × (k ≤ 6) × Settled lo hi k ⌝ }
+    requires { ⌜ Cells (now x) × (cellTotal (now w) ≤ length (now x)) × (14 * count ≤ length (now rows)) × Ranges lo hi × (k ≤ 6) × Settled lo hi k ⌝ }
     ensures { λ r. ⌜ First (tryOf (equations (now (x .entry)) (now (w .entry))) (now (rows .entry)) count) (Box lo hi t) Before r ⌝ }
 {
     if !fits(lo, hi, t) {
@@ -111,7 +111,7 @@ fn from_total(
     hi: Lengths,
     t: usize,
 ) -> Found
-    requires { ⌜ Cells (now x) × (total (now w) ≤ length (now x)) × (14 * count ≤ length (now rows)) × Ranges lo hi ⌝ }
+    requires { ⌜ Cells (now x) × (cellTotal (now w) ≤ length (now x)) × (14 * count ≤ length (now rows)) × Ranges lo hi ⌝ }
     ensures { λ r. ⌜ First (tryOf (equations (now (x .entry)) (now (w .entry))) (now (rows .entry)) count) (Above lo hi t) Sooner r ⌝ }
 {
     if sum(hi) < t {
@@ -127,7 +127,7 @@ fn from_total(
 // The first vector from `lo` to `hi` at which the rows hold and an attempt succeeds: x and w are the equations, as in `attempt`, and rows
 // the inequalities, as many as `count`. Not ok where there is none.
 pub fn first(x: &[u8], w: &[u8], rows: &[u16], count: usize, lo: Lengths, hi: Lengths) -> Found
-    requires { ⌜ Cells (now x) × (total (now w) ≤ length (now x)) × (14 * count ≤ length (now rows)) × Ranges lo hi ⌝ }
+    requires { ⌜ Cells (now x) × (cellTotal (now w) ≤ length (now x)) × (14 * count ≤ length (now rows)) × Ranges lo hi ⌝ }
     ensures { λ r. ⌜ First (tryOf (equations (now (x .entry)) (now (w .entry))) (now (rows .entry)) count) (Within lo hi) Sooner r ⌝ }
 {
     from_total(x, w, rows, count, lo, hi, 0)

@@ -9,7 +9,7 @@ use borrow.Fn.Kinds.{In}
 use borrow.Fn.PlainCycle.{Measures, is, falls, and}
 use Rattle.model.proofs.Seams.{tail-lent}
 use Rattle.walk.proofs.Laws.{cells-part, cells-tail, length-tail}
-use Rattle.attempt.specs.Attempt.{total}
+use Rattle.attempt.specs.Attempt.{cellTotal}
 use Rattle.attempt.proofs.Laws.{solve-end, total-next, Walked, solve-on, solve-stop}
 use Rattle.attempt.proofs.solve.Reads as solve
 use Rattle.attempt.proofs.solve.Kinds as solve-kinds
@@ -75,7 +75,7 @@ module _ (t : ℕ) where
   n c = c .wide2 .result
 
   -- there is a first equation, and there are cells for it and for the others
-  room : (c : Sized) → (2 ≤ length (w c)) × (m c + n c + total (drop 2 (w c)) ≤ length (x c))
+  room : (c : Sized) → (2 ≤ length (w c)) × (m c + n c + cellTotal (drop 2 (w c)) ≤ length (x c))
   room c =
       let two : 2 ≤ length (w c) = omega (arith, some c) in
       let all = total-next (w c) two in

@@ -12,7 +12,7 @@ use Rattle.model.specs.Sheet.{sheetOf}
 use Rattle.model.specs.Sheet as sheet
 use Rattle.model.specs.Range.{EquationIn}
 use Rattle.walk.specs.Walk.{Cells}
-use Rattle.attempt.specs.Attempt.{Equation, equations, total}
+use Rattle.attempt.specs.Attempt.{Equation, equations, cellTotal}
 use Rattle.inequalities.specs.Asked.{asked}
 use Rattle.inequalities.specs.Rows.{Within}
 use Rattle.inequalities.proofs.Asked.{asked-in}
@@ -30,7 +30,7 @@ module _ (es : List Equation) (x w : List ℕ) (r : Sizes) (there : Expanded es 
   lent-equations : equations (take (r .cells) x) (take (r .widths) w) ≡ es
   lent-equations = rw (there .cells-are, there .widths-are) (equations-again es)
 
-  lent-room : total (take (r .widths) w) ≤ length (take (r .cells) x)
+  lent-room : cellTotal (take (r .widths) w) ≤ length (take (r .cells) x)
   lent-room = let e = total-widths es in rw (there .cells-are, there .widths-are) (omega arith)
 
 -- the start, from the call that expands, and the equations that it expands

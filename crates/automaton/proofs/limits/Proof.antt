@@ -17,15 +17,15 @@ use Rattle.automaton.proofs.limits.Statement.{statement}
 use Rattle.automaton.proofs.limits.Tie as tie
 
 -- the first f of six lengths are the limits
-pub record First (s : Sheet) (n : List ℕ) (f : ℕ) : Type 0 where
-  pub six : length n ≡ 6
-  pub there : (k : ℕ) → k < f → getD n k 0 ≡ limit s k
-  pub none : (k : ℕ) → f ≤ k → getD n k 0 ≡ 0
+record Copied (s : Sheet) (n : List ℕ) (f : ℕ) : Type 0 where
+  six : length n ≡ 6
+  there : (k : ℕ) → k < f → getD n k 0 ≡ limit s k
+  none : (k : ℕ) → f ≤ k → getD n k 0 ≡ 0
 
-none-first : (s : Sheet) → First s (replicate 6 0) 0
+none-first : (s : Sheet) → Copied s (replicate 6 0) 0
 none-first s = record { six = refl; there = λ k h. absurd (omega arith); none = λ k h. zeros 6 k }
 
-one-more : (s : Sheet) (n : List ℕ) (f x : ℕ) → f < 6 → First s n f → x ≡ limit s f → First s (set n f x) (f + 1)
+one-more : (s : Sheet) (n : List ℕ) (f x : ℕ) → f < 6 → Copied s n f → x ≡ limit s f → Copied s (set n f x) (f + 1)
 one-more s n f x h i e = record {
   six = length-set n f x ∙ i .six;
   there = λ k l. by k l (ℕ-discrete k f);
@@ -37,7 +37,7 @@ one-more s n f x h i e = record {
     by k l (no q) = getD-set-other n f k x 0 q ∙ i .there k (omega arith)
 
 abbrev Inv-loop : tie.InvT-loop
-Inv-loop sheet fields n₀ f₀ n f = (f ≤ fields) × First (sheetOf sheet) n f
+Inv-loop sheet fields n₀ f₀ n f = (f ≤ fields) × Copied (sheetOf sheet) n f
 
 abbrev μ-loop : tie.MeasureT-loop
 μ-loop sheet fields n₀ f₀ n f = fields - f
