@@ -26,7 +26,7 @@ extern "C" {
 
     /// Answers 1 for a clash and its filling, or 0 for none, or minus the refusal's number; the
     /// last two without a filling.
-    fn tpl_search(sheet: *const u8, n: usize, filling: *mut u8, cap: usize) -> i64;
+    pub fn tpl_search(sheet: *const u8, n: usize, filling: *mut u8, cap: usize) -> i64;
 
     /// Answers 0 and the counts of variables and clauses and the size allowance, or minus the
     /// refusal's number and no counts.
@@ -36,7 +36,7 @@ extern "C" {
     fn tpl_line(sheet: *const u8, n: usize, line: u64, text: *mut u8, cap: usize) -> i64;
 
     /// Answers 0 and the filling, or minus the refusal's number and no filling.
-    fn tpl_reply(
+    pub fn tpl_reply(
         sheet: *const u8,
         n: usize,
         reply: *const u8,

@@ -116,15 +116,7 @@ pub fn file_of(sheet: &Sheet) -> File {
         numbers,
         clauses: Vec::new(),
     };
-    for (field, &limit) in sheet.limits.iter().enumerate() {
-        writer.places(field, usize::from(limit), sheet.letters.len());
-    }
-    for (number, pair) in sheet.pairs.iter().enumerate() {
-        writer.pair(sheet, number, pair);
-    }
-    for (number, rule) in sheet.rules.iter().enumerate() {
-        writer.rule(sheet, number, rule);
-    }
+    writer.sheet(sheet);
     let count = writer.clauses.len();
     let header = Line {
         kind: "line 0",
@@ -217,7 +209,7 @@ pub fn cells(template: &[Symbol], limits: &[u8]) -> Vec<Cell> {
 /// What a clause lists: a variable or its opposite, or what a letter cell makes always true or
 /// always false.
 #[derive(Clone, Copy)]
-enum Literal {
+pub enum Literal {
     Is(Variable),
     Not(Variable),
     Always,
@@ -258,7 +250,7 @@ struct Writer {
     clauses: Vec<Line>,
 }
 
-impl Writer {
+impl Clauses for Writer {
     /// Adds a clause, unless a literal is always true. Literals that are always false are dropped.
     fn clause(&mut self, kind: &'static str, literals: &[Literal]) {
         let mut bytes = Vec::new();
@@ -273,6 +265,25 @@ impl Writer {
         }
         bytes.extend(b"0\n");
         self.clauses.push(Line { kind, bytes });
+    }
+}
+
+/// What is given the clauses of a sheet one by one, in document 01's order.
+pub trait Clauses {
+    /// Takes a clause as document 01 writes it, before anything is left out of it.
+    fn clause(&mut self, kind: &'static str, literals: &[Literal]);
+
+    /// All clauses of a sheet.
+    fn sheet(&mut self, sheet: &Sheet) {
+        for (field, &limit) in sheet.limits.iter().enumerate() {
+            self.places(field, usize::from(limit), sheet.letters.len());
+        }
+        for (number, pair) in sheet.pairs.iter().enumerate() {
+            self.pair(sheet, number, pair);
+        }
+        for (number, rule) in sheet.rules.iter().enumerate() {
+            self.rule(sheet, number, rule);
+        }
     }
 
     /// The clauses of a field's places, for `l` letters.

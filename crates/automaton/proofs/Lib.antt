@@ -1,5 +1,2 @@
-pub mod Words
-pub mod Instances
-pub mod Flat
-pub mod Right
-pub mod AllAsked
+pub mod Narrow
+mod Apart

@@ -1,7 +1,7 @@
 -- What the enums of this crate say in document 01's numbers.
 use mathlib.Core.Bool.{true, false}
 use Prim.Native.Nat.{ℕ}
-use Rattle.model.specs.Calls.{Answer, refused, verdict}
+use Rattle.calls.specs.Calls.{Answer, refused, verdict}
 use Rattle.sheet.specs.Answer as sheet
 use Rattle.automaton.specs.declared.Refusal.{Refusal}
 use Rattle.automaton.specs.declared.Refusal.the-variants.{Sheet, Room}

@@ -1,3 +1,2 @@
-pub mod Sides
-pub mod Ask
 pub mod Answer
+pub mod Narrow

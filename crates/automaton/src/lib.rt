@@ -1,38 +1,29 @@
-// The search for a solution of a sheet (document 01: a clash), by the equation automaton of document 000 under fixed lengths: vectors of
-// lengths go from `lengths`, and at each `attempt` walks all equations. What is handed out has passed the check of `substitution`.
-mod sides;
+// The search for a solution of a sheet (document 01: a clash). Narrower questions come first, which `question` answers fast: where one of them has
+// no answer there is no solution. What is handed out has passed the check of `substitution`.
+mod choice;
+mod ends;
+mod narrowing;
 
+use choice::PARTS;
+use choice::among;
+use choice::companions;
+use choice::marks;
+use choice::used;
+use ends::some_ends_differ;
 use fields::FIELD_BYTES;
-use fields::Lengths;
 use inequalities::Marks;
-use inequalities::ROOM;
-use sides::CELLS;
-use sides::WIDTHS;
+use narrowing::differing;
+use narrowing::narrow;
 use unification::Found;
 ghost use mathlib.Core.Path.{_≡_};
-ghost use mathlib.Core.Bool.{true};
-ghost use Prim.Native.Nat.{ℕ, _*_, _<_, _≤_};
-ghost use lib.ListN.{length, getD};
+ghost use mathlib.Core.Bool.{false};
+ghost use Prim.Native.Nat.{_*_, _<_, _≤_};
+ghost use lib.ListN.{length};
 ghost use Rattle.model.specs.Sheet.{sheetOf};
-ghost use Rattle.model.specs.Sheet as model;
 ghost use Rattle.model.specs.Range.{Admitted};
-ghost use Rattle.model.specs.Calls.{Searches};
-ghost use Rattle.automaton.specs.Ask.{Asking, Finds, Whole};
+ghost use Rattle.calls.specs.Calls.{Searches};
+ghost use Rattle.automaton.specs.Narrow.{Unsolvable, Settles};
 ghost use Rattle.automaton.specs.Answer.{numberOf, searched};
-
-// What is asked: lengths from `lo` to `hi`, and the equations and constraints that are marked.
-pub struct Ask {
-    pub lo: Lengths,
-    pub hi: Lengths,
-    pub equations: Marks,
-    pub constraints: Marks,
-}
-
-// How many cells and how many widths there are.
-pub struct Sizes {
-    pub cells: usize,
-    pub widths: usize,
-}
 
 // What searching refuses, by document 01's numbers: what reading a sheet refuses, and 27.
 pub enum Refusal {
@@ -57,51 +48,53 @@ pub fn number(refusal: Refusal) -> u8
     }
 }
 
-// The limits of the fields, 0 for fields that the sheet does not have.
-fn limits(sheet: &[u8]) -> Lengths
+// Whether some of the equations have a solution by themselves, with the constraints that ask for no other fields; or whether they ask for as many
+// fields as all do, so that it is not worth a search.
+fn part_solvable(sheet: &[u8], equations: Marks, fields: usize) -> bool
     requires { ⌜ Admitted (now sheet) ⌝ }
-    ensures { λ r. ⌜ ((f : ℕ) → f < 6 → getD r f 0 ≡ model.limit (sheetOf (now (sheet .entry))) f) ⌝ }
+    ensures { λ r. ⌜ (r ≡ false → Unsolvable (sheetOf (now (sheet .entry)))) ⌝ }
 {
-    let fields = shape::fields(sheet);
-    let mut n: Lengths = [0; 6];
-    let mut f: usize = 0;
-    while f < fields {
-        n[f] = sheet::limit(sheet, f);
-        f += 1;
-    }
-    n
-}
-
-// All that a sheet asks.
-fn whole(sheet: &[u8]) -> Ask
-    requires { ⌜ Admitted (now sheet) ⌝ }
-    ensures { λ r. ⌜ Whole (sheetOf (now (sheet .entry))) r ⌝ }
-{
-    Ask {
-        lo: [0; 6],
-        hi: limits(sheet),
-        equations: [true; 4],
-        constraints: [true; 4],
-    }
-}
-
-// A substitution that answers what is asked, where there is one.
-pub fn find(sheet: &[u8], ask: Ask) -> Found
-    requires { ⌜ Admitted (now sheet) × Asking (sheetOf (now sheet)) ask ⌝ }
-    ensures { λ r. ⌜ Finds (now (sheet .entry)) ask r ⌝ }
-{
-    let mut x = [0u8; CELLS];
-    let mut w = [0u8; WIDTHS];
-    let mut rows = [0u16; ROOM];
-    let equations = ask.equations;
-    let constraints = ask.constraints;
-    let sizes = sides::put_equations(&mut x, &mut w, sheet, equations);
-    let count = inequalities::gather(sheet, equations, constraints, &mut rows);
-    let cells = sizes.cells;
-    let widths = sizes.widths;
-    let lo = ask.lo;
+    let ask = narrow(sheet, equations, companions(sheet, equations));
     let hi = ask.hi;
-    lengths::first(&x[..cells], &w[..widths], &rows, count, lo, hi)
+    if fields <= used(hi) {
+        return true;
+    }
+    question::find(sheet, ask, false).ok
+}
+
+// Whether each part of the marked equations is solvable, as far as that is asked.
+fn parts_solvable(sheet: &[u8], equations: Marks, fields: usize) -> bool
+    requires { ⌜ Admitted (now sheet) ⌝ }
+    ensures { λ r. ⌜ (r ≡ false → Unsolvable (sheetOf (now (sheet .entry)))) ⌝ }
+{
+    let mut i: usize = 0;
+    while i < 14 {
+        let part = marks(PARTS[i]);
+        if among(part, equations) {
+            if !part_solvable(sheet, part, fields) {
+                return false;
+            }
+        }
+        i += 1;
+    }
+    true
+}
+
+// A solution of an accepted sheet, where there is one.
+fn solve(sheet: &[u8]) -> Found
+    requires { ⌜ Admitted (now sheet) ⌝ }
+    ensures { λ r. ⌜ Settles (now (sheet .entry)) r ⌝ }
+{
+    if some_ends_differ(sheet) {
+        return lengths::none();
+    }
+    let equations = differing(sheet);
+    let ask = narrow(sheet, equations, [true; 4]);
+    let hi = ask.hi;
+    if !parts_solvable(sheet, equations, used(hi)) {
+        return lengths::none();
+    }
+    question::find(sheet, ask, true)
 }
 
 // Searches an accepted sheet, and hands over what is found once it has passed the check.
@@ -109,7 +102,7 @@ fn hand_over(sheet: &[u8], buf: &mut [u8]) -> Verdict
     requires { ⌜ Admitted (now sheet) × (9 * length (sheetOf (now sheet) .limits) ≤ length (now buf)) ⌝ }
     ensures { λ r. ⌜ Searches (now (sheet .entry)) (now (buf .entry)) (searched r) (now (buf .exit)) ⌝ }
 {
-    let found = find(sheet, whole(sheet));
+    let found = solve(sheet);
     if !found.ok {
         return Verdict::Unsatisfiable;
     }

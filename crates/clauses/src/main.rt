@@ -1,15 +1,16 @@
 // Prints the clause file of the sheet on standard input, or only `refused`, a space, document 01's number of the refusal and a line end.
-use encoding::Counting;
-use encoding::LINE_ROOM;
 use libc::STDIN_FILENO;
 use libc::STDOUT_FILENO;
-use report::MOST_REFUSAL;
 use sheet::ENOUGH;
+use sheet::Reading;
 ghost use Prim.Native.Nat.{_≤_};
 ghost use lib.ListN.{length};
-ghost use Rattle.model.specs.Sheet.{sheetOf};
-ghost use Rattle.model.specs.Range.{Admitted};
-ghost use Rattle.model.specs.Clause.{ids};
+ghost use Rattle.model.specs.Lists.{Puts};
+ghost use Rattle.formula.specs.Dimacs.{mostFile};
+ghost use Rattle.calls.specs.Report.{clausesPrinted};
+
+// Room for any file: line 0 and at most 47,600 others, each of at most 38 bytes.
+const MOST_FILE: usize = 1808838;
 
 fn main() {
     let mut buf = [0u8; ENOUGH];
@@ -17,39 +18,20 @@ fn main() {
     show(&buf[..n]);
 }
 
-// Prints the clause file of a sheet, or its refusal.
+// Prints the answer.
 fn show(sheet: &[u8]) {
-    match encoding::count(sheet) {
-        Counting::Refused(refusal) => show_refusal(sheet::number(refusal)),
-        Counting::Counts(counts) => show_lines(sheet, counts.clauses),
-    }
+    let mut out = [0u8; MOST_FILE];
+    let n = answer(sheet, &mut out);
+    io::write_all(STDOUT_FILENO, &out[..n]);
 }
 
-// Prints the lines from 0 to `last`. Where a line cannot be written it stops.
-fn show_lines(sheet: &[u8], last: usize)
-    requires { ⌜ Admitted (now sheet) × (last ≤ length (ids (sheetOf (now sheet)))) ⌝ }
+// What is printed for a sheet, at the front of a buffer. Returns its length; later bytes are as they were.
+fn answer(sheet: &[u8], out: &mut [u8]) -> usize
+    requires { ⌜ mostFile ≤ length (now out) ⌝ }
+    ensures { λ r. ⌜ Puts (now (out .entry)) 0 (clausesPrinted (now (sheet .entry))) (now (out .exit)) r ⌝ }
 {
-    let mut n: usize = 0;
-    while n <= last {
-        if !show_line(sheet, n) {
-            return;
-        }
-        n += 1;
+    match sheet::read(sheet) {
+        Reading::Refused(refusal) => report::refusal(out, sheet::number(refusal)),
+        Reading::Accepted(_) => rendering::put_file(out, sheet),
     }
-}
-
-// Prints line n. Returns whether it could be written.
-fn show_line(sheet: &[u8], n: usize) -> bool
-    requires { ⌜ Admitted (now sheet) × (n ≤ length (ids (sheetOf (now sheet)))) ⌝ }
-{
-    let mut line = [0u8; LINE_ROOM];
-    let len = encoding::put_line(&mut line, sheet, n);
-    io::write_all(STDOUT_FILENO, &line[..len])
-}
-
-// Prints the line of a refusal.
-fn show_refusal(number: u8) {
-    let mut line = [0u8; MOST_REFUSAL];
-    let len = report::refusal(&mut line, number);
-    io::write_all(STDOUT_FILENO, &line[..len]);
 }

@@ -8,11 +8,11 @@ use borrow.Author.Tests.{lt-ltb, le-ltb, ne-eqb}
 use Rattle.model.specs.Lists.{total}
 use Rattle.model.specs.Sheet.{Sheet, limit, constraint}
 use Rattle.model.specs.Range.{InRange}
-use Rattle.model.specs.Clause.{blank, fields, leftCells, rightCells, spread, ids}
-use Rattle.model.specs.Count.{used, atLetter, atField, locationCount, notBothCount, placeCount, fieldCount, locationSize, rowCount, equationCount, stepCount, within, constraintCount, kClauses, sClauses, clauseCount}
+use Rattle.formula.specs.Clause.{blank, fields, leftCells, rightCells, spread, ids}
+use Rattle.formula.specs.Count.{used, atLetter, atField, locationCount, notBothCount, placeCount, fieldCount, locationSize, rowCount, equationCount, stepCount, within, constraintCount, kClauses, sClauses, clauseCount}
 use Rattle.model.proofs.Keeping.{total-none, total-same}
-use Rattle.model.proofs.Small.{cells-small}
-use Rattle.model.proofs.Totals.{field-total, clause-count}
+use Rattle.formula.proofs.Small.{cells-small}
+use Rattle.formula.proofs.Totals.{field-total, clause-count}
 use Rattle.shape.specs.Bytes.{sideBytes, sideOf}
 use Rattle.shape.proofs.Sides.{side-at}
 use Rattle.model.proofs.Templates.{well-formed}

@@ -14,11 +14,11 @@ use mir.Val.{Fits, SFits, toZ, ofZ}
 use Rattle.model.specs.Lists.{pick}
 use Rattle.model.specs.Sheet.{Sheet, constraint}
 use Rattle.model.specs.Range.{Signed16, ConstraintIn, InRange}
-use Rattle.model.specs.Clause.{fields, least, spread}
-use Rattle.model.specs.Count.{atMost, within}
+use Rattle.formula.specs.Clause.{fields, least, spread}
+use Rattle.formula.specs.Count.{atMost, within}
 use Rattle.model.proofs.Lists.{never, at}
 use Rattle.model.proofs.Sums.{abs-add}
-use Rattle.model.proofs.Small.{fields-few, least-small}
+use Rattle.formula.proofs.Small.{fields-few, least-small}
 use Rattle.scan.proofs.Machine.{small-fits, small-back}
 use Rattle.scan.proofs.Terms.{most-back}
 

@@ -9,9 +9,9 @@ ghost use lib.ListN.{length, getD};
 ghost use Rattle.model.specs.Lists.{total};
 ghost use Rattle.model.specs.Sheet.{sheetOf, constraint};
 ghost use Rattle.model.specs.Range.{Admitted};
-ghost use Rattle.model.specs.Count.{notBothCount, fieldCount, locationCount, equationCount, stepCount, constraintCount, parts, partCounts};
-ghost use Rattle.model.specs.Clause.{ids};
-ghost use Rattle.model.specs.Count as model;
+ghost use Rattle.formula.specs.Count.{notBothCount, fieldCount, locationCount, equationCount, stepCount, constraintCount, parts, partCounts};
+ghost use Rattle.formula.specs.Clause.{ids};
+ghost use Rattle.formula.specs.Count as model;
 ghost use Rattle.shape.specs.Bytes.{sideOf};
 ghost use Rattle.shape.specs.Name.{sectionOf};
 
@@ -117,7 +117,7 @@ pub fn within(sheet: &[u8], r: usize) -> usize
     let fields = shape::fields(sheet);
     let sums = numbering::spread(sheet, r, fields) + 1;
     let least = numbering::least(sheet, r, fields);
-    let most = sheet::most(sheet, r);
+    let most = parts::most(sheet, r);
     if most < least {
         return 0;
     }

@@ -5,12 +5,12 @@ use Prim.Native.Nat.{ℕ, suc, _-_, _≤_}
 use native.Mathlib.Omega.{arith}
 use lib.ListN.{length, take, replicate, length-replicate}
 use Rattle.model.specs.Sheet.{Sheet}
-use Rattle.model.specs.Numbering.{variables}
-use Rattle.model.specs.Assignment.{truth}
-use Rattle.model.specs.Reply.{assigned}
-use Rattle.model.specs.Calls.{refused, formed, decoding}
+use Rattle.formula.specs.Numbering.{variables}
+use Rattle.formula.specs.Assignment.{truth}
+use Rattle.calls.specs.Reply.{assigned}
+use Rattle.calls.specs.Calls.{refused, formed, decoding}
 use Rattle.model.proofs.Seams.{take-replicate}
-use Rattle.model.proofs.Decoded.{decoding-alike}
+use Rattle.calls.proofs.Decoded.{decoding-alike}
 use Rattle.listing.specs.declared.Fault.{Fault}
 use Rattle.listing.specs.declared.Listing.the-variants.{Listed, Refused}
 use Rattle.listing.specs.Answer.{numberOf, Form}

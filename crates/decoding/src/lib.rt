@@ -5,11 +5,11 @@ ghost use mathlib.Core.Path.{_≡_};
 ghost use Prim.Native.Nat.{_*_, _≤_};
 ghost use lib.ListN.{length, replicate};
 ghost use Rattle.model.specs.Sheet.{sheetOf};
-ghost use Rattle.model.specs.Numbering.{variables};
-ghost use Rattle.model.specs.Assignment.{truth};
-ghost use Rattle.model.specs.Reply.{assigned};
-ghost use Rattle.model.specs.Calls.{formed, replying, HandsOver};
-ghost use Rattle.model.specs.Calls as model;
+ghost use Rattle.formula.specs.Numbering.{variables};
+ghost use Rattle.formula.specs.Assignment.{truth};
+ghost use Rattle.calls.specs.Reply.{assigned};
+ghost use Rattle.calls.specs.Calls.{formed, replying, HandsOver};
+ghost use Rattle.calls.specs.Calls as model;
 ghost use Rattle.places.specs.Marked.{Marked};
 ghost use Rattle.decoding.specs.Answer.{numberOf, replied};
 

@@ -6,11 +6,11 @@ use native.Mathlib.Omega.{arith}
 use lib.IntN.{pos, negℤ}
 use Rattle.model.specs.Lists.{each, All}
 use Rattle.model.specs.Sheet.{Sheet}
-use Rattle.model.specs.Clause.{Literal, is, isnt, Term, known, unknown, ClauseId, terms, literalOf, literals}
-use Rattle.model.specs.Numbering.{number, signedNumber, clause}
-use Rattle.model.specs.Dimacs.{decimal, literalBytes, clauseLine}
+use Rattle.formula.specs.Clause.{Literal, is, isnt, Term, known, unknown, ClauseId, terms, literalOf, literals}
+use Rattle.formula.specs.Numbering.{number, signedNumber, clause}
+use Rattle.formula.specs.Dimacs.{decimal, literalBytes, clauseLine}
 use Rattle.model.proofs.Lists.{each-append}
-use Rattle.model.proofs.Numbering.{positive}
+use Rattle.formula.proofs.Numbering.{positive}
 use Rattle.dimacs.specs.Codes.{codeBytes, codesLine, codeOf, termCode}
 use Rattle.dimacs.proofs.Laws.{code-none, code-even, code-odd}
 

@@ -1,15 +1,15 @@
 -- Pieces written one after another into a buffer; of which pieces a number in decimal and a literal's bytes are made. Assumes nothing.
-use mathlib.Core.Path.{_≡_, refl, sym, ap, subst, _∙_}
+use mathlib.Core.Path.{_≡_, refl, sym, ap, ap₂, subst, _∙_}
 use mathlib.Core.List.{List, [], _∷_, _++_, append-assoc}
 use Prim.Native.Nat.{ℕ, _+_, _/_, _%_, _<_, _≤_}
 use native.Mathlib.Omega.{arith}
 use lib.ListN.{length, getD, set, take, length-append, length-set}
 use borrow.Author.Tests.{eq-eqb, ne-eqb}
 use Rattle.model.specs.Lists.{each, Puts}
-use Rattle.model.specs.Dimacs.{decimal}
+use Rattle.formula.specs.Dimacs.{decimal}
 use Rattle.model.proofs.Lists.{each-next, each-part}
 use Rattle.model.proofs.Seams.{Written, nothing, more, put-one}
-use Rattle.model.proofs.Figures.{decimal-one, decimal-more}
+use Rattle.formula.proofs.Figures.{decimal-one, decimal-more}
 use Rattle.dimacs.specs.Codes.{codeBytes}
 
 -- a piece and those after it, put together
@@ -69,13 +69,46 @@ pub stored : {s : List ℕ} {start : ℕ} {w b : List ℕ} {at x : ℕ} → Writ
 stored {s} {start} {w} {b} {at} {x} v =
     let here = fits v in ends (set b at x) (at + 1) v (put-one b at x (omega arith)) (length-set b at x)
 
--- a number of one figure, and one of more
-module _ (s : List ℕ) (at n : ℕ) (room : at + length (decimal n) ≤ length s) where
-  pub one-figure : n < 10 → Writing s at (decimal n) ((48 + n % 10) ∷ []) [] s at
-  unfolding joined
-  one-figure h = let e : n ≡ n % 10 = omega arith in begin s at _ _ [] (decimal-one n h ∙ ap (λ k. (48 + k) ∷ []) e) room
+-- Numbers by their figures: one, two, three or four, and more.
+abbrev figureOf : ℕ → List ℕ
+figureOf n = (48 + n) ∷ []
 
-  pub more-figures : 10 ≤ n → Writing s at (decimal n) (decimal (n / 10)) (((48 + n % 10) ∷ []) ∷ []) s at
+decimal-two : (n : ℕ) → 10 ≤ n → n < 100 → decimal n ≡ figureOf (n / 10) ++ figureOf (n % 10)
+decimal-two n h l = decimal-more n h ∙ ap (λ z. z ++ figureOf (n % 10)) (decimal-one (n / 10) (omega arith))
+
+decimal-three : (n : ℕ) → 100 ≤ n → n < 1000 → decimal n ≡ figureOf (n / 100) ++ (figureOf (n / 10 % 10) ++ figureOf (n % 10))
+decimal-three n h l =
+    let e : n / 10 / 10 ≡ n / 100 = omega arith in
+    decimal-more n (omega arith)
+    ∙ ap (λ z. z ++ figureOf (n % 10)) (decimal-two (n / 10) (omega arith) (omega arith) ∙ ap (λ k. figureOf k ++ figureOf (n / 10 % 10)) e)
+
+decimal-four : (n : ℕ) → 1000 ≤ n → n < 10000 → decimal n ≡ figureOf (n / 1000) ++ (figureOf (n / 100 % 10) ++ (figureOf (n / 10 % 10) ++ figureOf (n % 10)))
+decimal-four n h l =
+    let e : n / 10 / 100 ≡ n / 1000 = omega arith in
+    let f : n / 10 / 10 % 10 ≡ n / 100 % 10 = omega arith in
+    decimal-more n (omega arith)
+    ∙ ap (λ z. z ++ figureOf (n % 10))
+    (decimal-three (n / 10) (omega arith) (omega arith) ∙ ap₂ (λ j k. figureOf j ++ (figureOf k ++ figureOf (n / 10 % 10))) e f)
+
+module _ (s : List ℕ) (at n : ℕ) (room : at + length (decimal n) ≤ length s) where
+  pub one-figure : n < 10 → Writing s at (decimal n) (figureOf n) [] s at
+  unfolding joined
+  one-figure h = begin s at _ _ [] (decimal-one n h) room
+
+  pub two-figures : 10 ≤ n → n < 100 → Writing s at (decimal n) (figureOf (n / 10)) (figureOf (n % 10) ∷ []) s at
+  unfolding joined
+  two-figures h l = begin s at _ _ _ (decimal-two n h l) room
+
+  pub three-figures : 100 ≤ n → n < 1000 → Writing s at (decimal n) (figureOf (n / 100)) (figureOf (n / 10 % 10) ∷ figureOf (n % 10) ∷ []) s at
+  unfolding joined
+  three-figures h l = begin s at _ _ _ (decimal-three n h l) room
+
+  pub four-figures : 1000 ≤ n → n < 10000
+      → Writing s at (decimal n) (figureOf (n / 1000)) (figureOf (n / 100 % 10) ∷ figureOf (n / 10 % 10) ∷ figureOf (n % 10) ∷ []) s at
+  unfolding joined
+  four-figures h l = begin s at _ _ _ (decimal-four n h l) room
+
+  pub more-figures : 10 ≤ n → Writing s at (decimal n) (decimal (n / 10)) (figureOf (n % 10) ∷ []) s at
   unfolding joined
   more-figures h = begin s at _ _ _ (decimal-more n h) room
 

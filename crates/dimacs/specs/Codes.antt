@@ -4,9 +4,9 @@ use Prim.Native.Nat.{ℕ, _+_, _*_, _/_, _%_}
 use lib.Dec.{eqb}
 use Rattle.model.specs.Lists.{pick, each}
 use Rattle.model.specs.Sheet.{Sheet}
-use Rattle.model.specs.Clause.{Literal, is, isnt, Term, known, unknown}
-use Rattle.model.specs.Numbering.{number}
-use Rattle.model.specs.Dimacs.{decimal}
+use Rattle.formula.specs.Clause.{Literal, is, isnt, Term, known, unknown}
+use Rattle.formula.specs.Numbering.{number}
+use Rattle.formula.specs.Dimacs.{decimal}
 
 -- the code of a literal, and of a literal as document 01 writes it in a clause: 0 where it is known
 abbrev pub codeOf : Sheet → Literal → ℕ

@@ -1,20 +1,52 @@
 // The lines of a clause file as bytes: numbers in decimal, literals, clauses, and the first line. Each is written into a lent buffer.
 use words::put;
 ghost use mathlib.Core.Path.{_≡_};
-ghost use Prim.Native.Nat.{_+_, _≤_};
+ghost use mathlib.Core.List.{[], _∷_};
+ghost use Prim.Native.Nat.{_+_, _<_, _≤_};
 ghost use lib.ListN.{length};
 ghost use Rattle.model.specs.Lists.{each, Puts};
-ghost use Rattle.model.specs.Dimacs.{decimal, problemLine};
+ghost use Rattle.formula.specs.Dimacs.{decimal, problemLine};
 ghost use Rattle.dimacs.specs.Codes.{codeBytes, codesLine};
+
+// The figure of a number below ten, at an offset of the buffer. Returns the offset past it.
+fn figure(buf: &mut [u8], at: usize, n: usize) -> usize
+    requires { ⌜ (n < 10) × (at < length (now buf)) ⌝ }
+    ensures { λ r. ⌜ Puts (now (buf .entry)) at ((48 + n) ∷ []) (now (buf .exit)) r ⌝ }
+{
+    buf[at] = 48 + n as u8;
+    at + 1
+}
+
+// A number of at most four figures in decimal: each figure by itself, which is faster than one after the other.
+fn few_figures(buf: &mut [u8], at: usize, n: usize) -> usize
+    requires { ⌜ (n < 10000) × (at + length (decimal n) ≤ length (now buf)) ⌝ }
+    ensures { λ r. ⌜ Puts (now (buf .entry)) at (decimal n) (now (buf .exit)) r ⌝ }
+{
+    if n < 10 {
+        return figure(buf, at, n);
+    }
+    if n < 100 {
+        let a = figure(buf, at, n / 10);
+        return figure(buf, a, n % 10);
+    }
+    if n < 1000 {
+        let a = figure(buf, at, n / 100);
+        let b = figure(buf, a, n / 10 % 10);
+        return figure(buf, b, n % 10);
+    }
+    let a = figure(buf, at, n / 1000);
+    let b = figure(buf, a, n / 100 % 10);
+    let c = figure(buf, b, n / 10 % 10);
+    figure(buf, c, n % 10)
+}
 
 // A number in decimal, at an offset of the buffer. Returns the offset past it.
 pub fn print(buf: &mut [u8], at: usize, n: usize) -> usize
     requires { ⌜ at + length (decimal n) ≤ length (now buf) ⌝ }
     ensures { λ r. ⌜ Puts (now (buf .entry)) at (decimal n) (now (buf .exit)) r ⌝ }
 {
-    if n < 10 {
-        buf[at] = 48 + (n % 10) as u8;
-        return at + 1;
+    if n < 10000 {
+        return few_figures(buf, at, n);
     }
     let next = print(buf, at, n / 10);
     buf[next] = 48 + (n % 10) as u8;
@@ -38,27 +70,27 @@ fn put_literal(buf: &mut [u8], at: usize, code: usize) -> usize
     put(buf, end, b" ")
 }
 
-// Literals one after another, from the front of the buffer on.
-fn put_literals(buf: &mut [u8], codes: &[usize]) -> usize
-    requires { ⌜ length (each (now codes) codeBytes) ≤ length (now buf) ⌝ }
-    ensures { λ r. ⌜ Puts (now (buf .entry)) 0 (each (now (codes .entry)) codeBytes) (now (buf .exit)) r ⌝ }
+// Literals one after another.
+fn put_literals(buf: &mut [u8], at: usize, codes: &[usize]) -> usize
+    requires { ⌜ at + length (each (now codes) codeBytes) ≤ length (now buf) ⌝ }
+    ensures { λ r. ⌜ Puts (now (buf .entry)) at (each (now (codes .entry)) codeBytes) (now (buf .exit)) r ⌝ }
 {
-    let mut at: usize = 0;
+    let mut past = at;
     let mut i: usize = 0;
     while i < codes.len() {
-        at = put_literal(buf, at, codes[i]);
+        past = put_literal(buf, past, codes[i]);
         i += 1;
     }
-    at
+    past
 }
 
-// The line of a clause. Returns its length.
-pub fn clause_line(buf: &mut [u8], codes: &[usize]) -> usize
-    requires { ⌜ length (codesLine (now codes)) ≤ length (now buf) ⌝ }
-    ensures { λ r. ⌜ Puts (now (buf .entry)) 0 (codesLine (now (codes .entry))) (now (buf .exit)) r ⌝ }
+// The line of a clause.
+pub fn clause_line(buf: &mut [u8], at: usize, codes: &[usize]) -> usize
+    requires { ⌜ at + length (codesLine (now codes)) ≤ length (now buf) ⌝ }
+    ensures { λ r. ⌜ Puts (now (buf .entry)) at (codesLine (now (codes .entry))) (now (buf .exit)) r ⌝ }
 {
-    let at = put_literals(buf, codes);
-    put(buf, at, b"0\n")
+    let past = put_literals(buf, at, codes);
+    put(buf, past, b"0\n")
 }
 
 // The first line of a clause file. Returns its length.

@@ -1,7 +1,7 @@
 -- What the enums of this crate say in document 01's numbers.
 use mathlib.Core.List.{List, [], _∷_}
 use Prim.Native.Nat.{ℕ}
-use Rattle.model.specs.Calls.{Answer, refused, finished}
+use Rattle.calls.specs.Calls.{Answer, refused, finished}
 use Rattle.sheet.specs.Answer as sheet
 use Rattle.encoding.specs.declared.ClauseCounts.{ClauseCounts}
 use Rattle.encoding.specs.declared.Refusal.{Refusal}

@@ -5,9 +5,9 @@ ghost use lib.ListN.{length};
 ghost use Rattle.model.specs.Lists.{Puts};
 ghost use Rattle.model.specs.Sheet.{sheetOf};
 ghost use Rattle.model.specs.Range.{Admitted};
-ghost use Rattle.model.specs.Clause.{ids};
-ghost use Rattle.model.specs.Dimacs.{line};
-ghost use Rattle.model.specs.Calls.{clauseCounts, counting, writing, Writes};
+ghost use Rattle.formula.specs.Clause.{ids};
+ghost use Rattle.formula.specs.Dimacs.{line};
+ghost use Rattle.calls.specs.Calls.{clauseCounts, counting, writing, Writes};
 ghost use Rattle.encoding.specs.Answer.{numberOf, threeCounts, counted, lined};
 
 // What counting answers: the variables, the clauses, and a size that is at least the file's bytes.
@@ -84,7 +84,7 @@ pub fn put_line(buf: &mut [u8], sheet: &[u8], n: usize) -> usize
         return dimacs::problem_line(buf, variables, clauses);
     }
     let codes = literals::codes(sheet, finding::find(sheet, n - 1));
-    dimacs::clause_line(buf, &codes)
+    dimacs::clause_line(buf, 0, &codes)
 }
 
 // Writes line n of the clause file into the buffer, line 0 being the first: the line's length, or the first refusal in document 01's order.

@@ -12,23 +12,23 @@ use mathlib.Core.Logic.{_↔_}
 use lib.Dec.{leb}
 use lib.IntN.{ℤ, pos, negℤ}
 use lib.ListN.{length, take, drop}
-use Rattle.model.specs.Calls.{Answer, refused, finished, reading, checking, spelling, counting, writing, sized, replying, unnumbered, verdict, ofSheet, require, searchingOf, searching, Searches}
+use Rattle.calls.specs.Calls.{Answer, refused, finished, reading, checking, spelling, counting, writing, sized, replying, unnumbered, verdict, ofSheet, require, searchingOf, searching, Searches}
 use Rattle.model.specs.Lists.{Bytes}
 use Rattle.model.specs.Sheet as sheet
 use Rattle.model.specs.Sheet.{Sheet, Reading, read, Accepted, sheetOf}
 use Rattle.model.specs.Word.{Substitution, Solves}
 use Rattle.model.specs.Filling.{encodeFilling}
-use Rattle.model.specs.Assignment.{Assignment, Satisfies, spelled}
-use Rattle.model.specs.Reply.{Lists}
-use Rattle.model.proofs.Known.{reading-accepted, reading-counts}
-use Rattle.model.proofs.Refusals.{refusal-numbers, checking-cases, spelling-refused, counting-refused, writing-refused}
-use Rattle.model.proofs.Operations.{not-finished, sheet-finished, counting-counts, LineOf, writing-answered, Sized}
-use Rattle.model.proofs.Passed.{FillingOf, answered, passed-solves, solves-passed}
-use Rattle.model.proofs.Replying.{replying-refused}
-use Rattle.model.proofs.Untrusted.{accepted-clashes, listed-accepted}
+use Rattle.formula.specs.Assignment.{Assignment, Satisfies, spelled}
+use Rattle.calls.specs.Reply.{Lists}
+use Rattle.calls.proofs.Read.{reading-accepted, reading-counts}
+use Rattle.calls.proofs.Refusals.{refusal-numbers, checking-cases, spelling-refused, counting-refused, writing-refused}
+use Rattle.calls.proofs.Operations.{not-finished, sheet-finished, counting-counts, LineOf, writing-answered, Sized}
+use Rattle.calls.proofs.Passed.{FillingOf, answered, passed-solves, solves-passed}
+use Rattle.calls.proofs.Replying.{replying-refused}
+use Rattle.calls.proofs.Untrusted.{accepted-clashes, listed-accepted}
 use Rattle.model.specs.Solvable.{solvable}
-use Rattle.model.proofs.Searching.{searching-refused, apart-no-clash}
-use Rattle.model.proofs.Demands.{HandsOverAClash, search-answers-clash-exactly, search-hands-over-a-clash, search-else-answers-apart}
+use Rattle.calls.proofs.Searching.{searching-refused, apart-no-clash}
+use Rattle.calls.proofs.Demands.{HandsOverAClash, search-answers-clash-exactly, search-hands-over-a-clash, search-else-answers-apart}
 use Rattle.engine.specs.Returned.{returned, returnedNumber, HandedOver, Sought}
 
 record Finished (a : Answer) : Type 0 where

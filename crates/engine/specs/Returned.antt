@@ -4,7 +4,7 @@ use mathlib.Core.List.{List, [], _∷_}
 use Prim.Native.Nat.{ℕ}
 use lib.IntN.{ℤ, pos, negℤ}
 use lib.ListN.{length}
-use Rattle.model.specs.Calls.{Answer, refused, finished, sized, written, searching, Clashed}
+use Rattle.calls.specs.Calls.{Answer, refused, finished, sized, written, searching, Clashed}
 
 -- minus the refusal's number; 0 for a call whose values go to a lent array
 abbrev pub returned : Answer → ℤ

@@ -4,7 +4,7 @@ ghost use mathlib.Core.Path.{_≡_};
 ghost use Prim.Native.Nat.{_<_};
 ghost use lib.IntN.{pos, negℤ};
 ghost use lib.ListN.{length};
-ghost use Rattle.model.specs.Calls.{reading, checking, spelling, counting, writing, replying};
+ghost use Rattle.calls.specs.Calls.{reading, checking, spelling, counting, writing, replying};
 ghost use Rattle.engine.specs.Returned.{returned, lentAfter, returnedNumber, Handed, HandedOver, Sought};
 
 // Reads a sheet of any bytes. Returns 0, with its four counts (letters, fields, pairs, rules) in `counts`; or minus

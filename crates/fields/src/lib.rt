@@ -155,7 +155,7 @@ pub fn admit(sheet: &[u8], bytes: &[u8]) -> Admission
     requires { ⌜ Accepted (now sheet) ⌝ }
     ensures { λ r. ⌜ admitted r ≡ rest (filling (sheetOf (now (sheet .entry))) (now (bytes .entry))) ⌝ }
 {
-    let counts = sheet::four_counts(sheet);
+    let counts = parts::four_counts(sheet);
     let fields = wide(counts.fields);
     if bytes.len() != FIELD_BYTES * fields {
         return Admission::Refused(Fault::Size);
@@ -163,7 +163,7 @@ pub fn admit(sheet: &[u8], bytes: &[u8]) -> Admission
     let mut f: usize = 0;
     while f < fields {
         let at = FIELD_BYTES * f;
-        let limit = sheet::limit(sheet, f);
+        let limit = parts::limit(sheet, f);
         match check_field(&bytes[at..], limit, counts.letters) {
             Admission::Refused(fault) => {
                 return Admission::Refused(fault);
@@ -181,5 +181,5 @@ pub fn load(sheet: &[u8], bytes: &[u8]) -> Substitution
     requires { ⌜ Accepted (now sheet) × (rest (filling (sheetOf (now sheet)) (now bytes)) ≡ got tt []) ⌝ }
     ensures { λ g. ⌜ Held (now (sheet .entry)) g × (filling (sheetOf (now (sheet .entry))) (now (bytes .entry)) ≡ got (meaning (now (sheet .entry)) g) []) ⌝ }
 {
-    load_fields(bytes, wide(sheet::four_counts(sheet).fields))
+    load_fields(bytes, wide(parts::four_counts(sheet).fields))
 }

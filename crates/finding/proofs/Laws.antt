@@ -14,15 +14,15 @@ use mir.ValLaws.{toZ-pos}
 use Rattle.model.specs.Lists.{pick, from, upTo, total}
 use Rattle.model.specs.Sheet.{Sheet, limit, constraint}
 use Rattle.model.specs.Range.{InRange}
-use Rattle.model.specs.Clause.{ClauseId, SomeValue, NotBoth, BlankTail, Start, Left, Both, Match, Zero, Add, Bound, least, spread, idAt, blank, fields, leftCells, rightCells, none}
-use Rattle.model.specs.Count.{Side, used, atLetter, atField, SideIn, side, standing, locationCount, notBothCount, placeStart, fieldCount, locationSize, rowCount, equationStart, stepCount, within, constraintCount, constraintStart}
+use Rattle.formula.specs.Clause.{ClauseId, SomeValue, NotBoth, BlankTail, Start, Left, Both, Match, Zero, Add, Bound, least, spread, idAt, blank, fields, leftCells, rightCells, none}
+use Rattle.formula.specs.Count.{Side, used, atLetter, atField, SideIn, side, standing, locationCount, notBothCount, placeStart, fieldCount, locationSize, rowCount, equationStart, stepCount, within, constraintCount, constraintStart}
 use Rattle.model.proofs.Lists.{by-test}
 use Rattle.model.proofs.Keeping.{length-map-from, map-from-at, map-append, first-at, second-at, total-more, total-none}
-use Rattle.model.proofs.Integers.{sum-in}
-use Rattle.model.proofs.Small.{fields-few, least-small, spread-small, cells-small}
-use Rattle.model.proofs.Standing.{sides-in}
-use Rattle.model.proofs.Totals.{place-before, field-total}
-use Rattle.model.proofs.Finding.{some-at, not-both-at, tail-at, start-at, location-at, zero-at, add-at, bound-at}
+use Rattle.formula.proofs.Integers.{sum-in}
+use Rattle.formula.proofs.Small.{fields-few, least-small, spread-small, cells-small}
+use Rattle.formula.proofs.Standing.{sides-in}
+use Rattle.formula.proofs.Totals.{place-before, field-total}
+use Rattle.formula.proofs.Finding.{some-at, not-both-at, tail-at, start-at, location-at, zero-at, add-at, bound-at}
 use Rattle.scan.proofs.Machine.{small-fits, small-back}
 use Rattle.shape.specs.Bytes.{sideBytes, sideOf}
 use Rattle.shape.proofs.Sides.{side-at}

@@ -11,7 +11,7 @@ use borrow.Author.Tests.{ltb-true, ltb-false, le-leb, lt-leb}
 use Rattle.model.specs.Lists.{upTo, any}
 use Rattle.model.proofs.Lists.{never, by-test, any-none, any-some, below-out}
 use Rattle.model.proofs.Keeping.{below-in, all-below, all-not, total-same}
-use Rattle.model.proofs.Small.{total-grows}
+use Rattle.formula.proofs.Small.{total-grows}
 use Rattle.inequalities.specs.Rows.{sideSum, rowHolds, hopelessRow, rowsHold, hopelessOf, Within}
 
 -- whether a test passes at some number below n

@@ -3,5 +3,6 @@ pub mod Boxes
 mod Signs
 mod Weighed
 pub mod Rows
+pub mod Shorter
 pub mod Agreement
 mod Steps

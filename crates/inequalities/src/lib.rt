@@ -1,11 +1,13 @@
 // Lengths as linear inequalities: what an equation or a constraint asks of the lengths of the fields' texts, as rows of numbers without
 // signs, and whether no lengths between two vectors can keep such rows. Knows nothing of what the texts hold.
-mod gathering;
 mod making;
 
 use fields::FIELDS;
 use fields::Lengths;
-pub use gathering::gather;
+pub use making::constraint_row;
+pub use making::equation_row;
+pub use making::occurrences;
+pub use making::second_factor;
 ghost use mathlib.Core.Path.{_≡_};
 ghost use Prim.Native.Nat.{_+_, _*_, _<_, _≤_};
 ghost use lib.ListN.{length, getD, drop};

@@ -25,7 +25,7 @@ fn slot(symbol: u8) -> u8
 }
 
 // How often the symbols of a slot occur in a template.
-fn occurrences(template: &[u8], k: u8) -> u16
+pub fn occurrences(template: &[u8], k: u8) -> u16
     requires { ⌜ length (now template) ≤ 12 ⌝ }
     ensures { λ r. ⌜ r ≡ specs.occurrences (map symbolOf (now (template .entry))) k ⌝ }
 {
@@ -104,7 +104,7 @@ fn coefficient(sheet: &[u8], r: usize, f: usize) -> i16
     if shape::fields(sheet) <= f {
         return 0;
     }
-    sheet::coefficient(sheet, r, f) as i16
+    parts::coefficient(sheet, r, f) as i16
 }
 
 // What the length of field f is multiplied by on the first side of constraint r's row, and on the second.
@@ -115,7 +115,7 @@ fn first_factor(sheet: &[u8], r: usize, f: usize) -> u16
     positive(coefficient(sheet, r, f))
 }
 
-fn second_factor(sheet: &[u8], r: usize, f: usize) -> u16
+pub fn second_factor(sheet: &[u8], r: usize, f: usize) -> u16
     requires { ⌜ Admitted (now sheet) × (r < length (sheetOf (now sheet) .constraints)) ⌝ }
     ensures { λ n. ⌜ n ≡ specs.negative (model.coefficient (constraint (sheetOf (now (sheet .entry))) r) f) ⌝ }
 {
@@ -127,7 +127,7 @@ pub fn constraint_row(sheet: &[u8], r: usize) -> Row
     requires { ⌜ Admitted (now sheet) × (r < length (sheetOf (now sheet) .constraints)) ⌝ }
     ensures { λ n. ⌜ n ≡ constraintRow (constraint (sheetOf (now (sheet .entry))) r) ⌝ }
 {
-    let most = sheet::most(sheet, r);
+    let most = parts::most(sheet, r);
     [
         first_factor(sheet, r, 0),
         first_factor(sheet, r, 1),

@@ -10,15 +10,16 @@ use Rattle.model.specs.Lists.{pick}
 use Rattle.model.specs.Lists as lists
 use Rattle.unification.specs.declared.Found.{Found}
 use Rattle.unification.specs.Names.{failed}
+use Rattle.lengths.specs.declared.Stage.{Stage}
 use Rattle.attempt.specs.Attempt.{Equation, startOf, attemptOf}
 use Rattle.inequalities.specs.Rows.{Within, rowsHold}
 
 unfoldable pub sumOf : List ℕ → ℕ
 sumOf m = lists.total 6 (λ f. getD m f 0)
 
--- whether a box has vectors of total t
-abbrev pub fitsIn : List ℕ → List ℕ → ℕ → Bool
-fitsIn lo hi t = pick (ltb t (sumOf lo)) false (leb t (sumOf hi))
+-- whether a box has vectors of a total from t to u
+abbrev pub fitsIn : List ℕ → List ℕ → ℕ → ℕ → Bool
+fitsIn lo hi t u = pick (ltb u (sumOf lo)) false (leb t (sumOf hi))
 
 -- no range is empty
 abbrev pub Ranges : List ℕ → List ℕ → Type 0
@@ -28,9 +29,9 @@ Ranges lo hi = (f : ℕ) → f < 6 → getD lo f 0 ≤ getD hi f 0
 abbrev pub Settled : List ℕ → List ℕ → ℕ → Type 0
 Settled lo hi k = (f : ℕ) → f < k → getD lo f 0 ≡ getD hi f 0
 
--- the vectors of a box that have the total t, and those that have it or more
-abbrev pub Box : List ℕ → List ℕ → ℕ → List ℕ → Type 0
-Box lo hi t m = Within lo hi m × (sumOf m ≡ t)
+-- the vectors of a box that have a total from t to u, and those that have the total t or more
+abbrev pub Box : List ℕ → List ℕ → ℕ → ℕ → List ℕ → Type 0
+Box lo hi t u m = Within lo hi m × (t ≤ sumOf m) × (sumOf m ≤ u)
 
 abbrev pub Above : List ℕ → List ℕ → ℕ → List ℕ → Type 0
 Above lo hi t m = Within lo hi m × (t ≤ sumOf m)
@@ -46,6 +47,11 @@ pub record Before (a b : List ℕ) : Type 0 where
 abbrev pub Sooner : List ℕ → List ℕ → Type 0
 Sooner a b = (sumOf a < sumOf b) ⊎ ((sumOf a ≡ sumOf b) × Before a b)
 
+-- by totals, if the shortest is asked for; else none comes before another
+abbrev pub Order : Bool → List ℕ → List ℕ → Type 0
+Order true a b = Sooner a b
+Order false a b = ⊥
+
 -- r is the answer at the first vector of C, by the order O, at which `try` succeeds; or there is none
 pub record Hit (try : List ℕ → Found) (C : List ℕ → Type 0) (O : List ℕ → List ℕ → Type 0) (r : Found) : Type 0 where
   pub vector : List ℕ
@@ -60,3 +66,12 @@ pub record First (try : List ℕ → Found) (C : List ℕ → Type 0) (O : List 
 -- what is tried at a vector: an attempt, where the rows hold
 unfoldable pub tryOf : List Equation → List ℕ → ℕ → List ℕ → Found
 tryOf es rows count m = pick (rowsHold rows count m) (attemptOf es m) (failed (startOf m))
+
+-- nothing of a total below t succeeds
+abbrev pub NoneBelow : (List ℕ → Found) → List ℕ → List ℕ → ℕ → Type 0
+NoneBelow try lo hi t = (m : List ℕ) → Within lo hi m → sumOf m < t → try m .ok ≡ false
+
+-- r found something or there is nothing, and below its total nothing succeeds
+pub record Staged (try : List ℕ → Found) (lo hi : List ℕ) (r : Stage) : Type 0 where
+  pub some : First try (Within lo hi) (Order false) (r .found)
+  pub below : NoneBelow try lo hi (r .from)

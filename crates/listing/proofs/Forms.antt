@@ -8,8 +8,8 @@ use lib.Dec.{eqb}
 use lib.ListN.{length, getD, replicate}
 use borrow.Author.Tests.{eq-eqb, ne-eqb}
 use Rattle.model.specs.Lists.{all}
-use Rattle.model.specs.Reply.{lines, lineEnded, known, given, givenOnce}
-use Rattle.model.specs.Calls.{Answer, require, formed}
+use Rattle.calls.specs.Reply.{lines, lineEnded, known, given, givenOnce}
+use Rattle.calls.specs.Calls.{Answer, require, formed}
 use Rattle.model.proofs.Lists.{by-test, or-right}
 use Rattle.listing.specs.declared.Tally.{Tally}
 use Rattle.listing.specs.declared.Lines.the-variants.{Known, Unknown}

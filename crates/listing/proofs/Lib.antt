@@ -1,6 +1,3 @@
-mod Firsts
-mod Digits
-mod Numbers
 mod Marks
 mod Pieces
 mod Texts

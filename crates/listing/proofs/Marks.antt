@@ -9,8 +9,8 @@ use lib.ListN.{length, getD, length-set, List·getD-eq-default}
 use lib.Seq.{set-out, getD-set-same, getD-set-other}
 use borrow.Author.Tests.{le-leb, lt-leb, eqb-true, eqb-false}
 use Rattle.model.specs.Lists.{pick}
-use Rattle.model.specs.Assignment.{truth}
-use Rattle.model.specs.Reply.{isPlus}
+use Rattle.formula.specs.Assignment.{truth}
+use Rattle.calls.specs.Reply.{isPlus}
 use Rattle.model.proofs.Lists.{by-test, or-right}
 use Rattle.listing.specs.declared.Tally.{Tally}
 use Rattle.listing.specs.Tally.{isMarked, markOf, noted, marked, isPos}

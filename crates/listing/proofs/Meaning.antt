@@ -10,10 +10,10 @@ use lib.IntN.{ℤ, natAbs}
 use lib.ListN.{length, drop, replicate, length-replicate, getD-replicate}
 use borrow.Author.Tests.{leb-true, leb-false, le-leb, lt-leb}
 use Rattle.model.specs.Lists.{pick, same, each, any, all, keep}
-use Rattle.model.specs.Assignment.{truth}
-use Rattle.model.specs.Dimacs.{numbers}
-use Rattle.model.specs.Reply.{split, spaced, lines, satisfiableLine, statusLine, valueLine, before, oneStatus, lineNumbers, given}
-use Rattle.model.specs.Reply.{isEmpty, closed, inCount, distinct, givenOnce, isPlus, assigned}
+use Rattle.formula.specs.Assignment.{truth}
+use Rattle.formula.specs.Dimacs.{numbers}
+use Rattle.calls.specs.Reply.{split, spaced, lines, satisfiableLine, statusLine, valueLine, before, oneStatus, lineNumbers, given}
+use Rattle.calls.specs.Reply.{isEmpty, closed, inCount, distinct, givenOnce, isPlus, assigned}
 use Rattle.model.proofs.Lists.{by-test, and-split, same-equal}
 use Rattle.listing.specs.declared.Tally.{Tally}
 use Rattle.listing.specs.Tally.{State, isMarked, noted, marked, isPos, afterNumber}

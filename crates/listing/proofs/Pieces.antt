@@ -10,15 +10,16 @@ use lib.ListN.{length, take, drop, drop-of-length-le, length-append}
 use lib.Seq.{drop-append-le, drop-drop}
 use borrow.Author.Tests.{eqb-true}
 use Rattle.model.specs.Lists.{span, all, All}
-use Rattle.model.specs.Dimacs.{numbersFrom, numbers}
-use Rattle.model.specs.Reply.{isNumber, split, spaced}
+use Rattle.formula.specs.Dimacs.{numbersFrom, numbers}
+use Rattle.calls.specs.Reply.{isNumber, split, spaced}
 use Rattle.model.proofs.Lists.{by-test}
-use Rattle.model.proofs.Splitting.{before-end, split-piece}
+use Rattle.model.proofs.Spans.{before-end}
+use Rattle.calls.proofs.Splitting.{split-piece}
 use Rattle.listing.specs.declared.Tally.{Tally}
-use Rattle.listing.specs.declared.Piece.the-variants as piece
+use Rattle.numerals.specs.declared.Piece.the-variants as piece
 use Rattle.listing.specs.declared.Lines.the-variants.{Known, Unknown}
 use Rattle.listing.specs.Tally.{noted, marked, isPos, afterNumber, afterNumbers, valuePieces, ReadValues}
-use Rattle.listing.specs.Answer.{Said}
+use Rattle.numerals.specs.Said.{Said}
 use Rattle.listing.proofs.Marks.{marked-long}
 
 -- A stretch up to an end byte that stands after the whole list too, and what follows it.

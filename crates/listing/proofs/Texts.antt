@@ -8,14 +8,15 @@ use lib.ListN.{length, take, drop, getD, drop-of-length-le, length-drop}
 use lib.Seq.{drop-drop, length-take-le, getD-take}
 use borrow.Author.Tests.{eq-eqb}
 use Rattle.model.specs.Lists.{span, all, same, startsWith}
-use Rattle.model.specs.Reply.{isNumber, split, lines, spaced, comment, statusLine, vPieces, valueLine, known, lineNumbers}
+use Rattle.calls.specs.Reply.{isNumber, split, lines, spaced, comment, statusLine, vPieces, valueLine, known, lineNumbers}
 use Rattle.model.proofs.Lists.{or-right}
-use Rattle.model.proofs.Splitting.{span-short, split-first}
+use Rattle.model.proofs.Spans.{span-short}
+use Rattle.calls.proofs.Splitting.{split-first}
 use Rattle.listing.specs.declared.Tally.{Tally}
 use Rattle.listing.specs.declared.Lines.{Lines}
 use Rattle.listing.specs.declared.Lines.the-variants.{Known, Unknown}
 use Rattle.listing.specs.Tally.{nothing, afterLine, afterLines, valuePieces, ReadValues, ReadLine, ReadLines}
-use Rattle.listing.proofs.Firsts.{starts, starts-not, alone-not}
+use Rattle.numerals.proofs.Firsts.{starts, starts-not, alone-not}
 use Rattle.listing.proofs.Pieces.{piece-at}
 
 -- What a line's first byte, and the offset of its first space, say of its form.

@@ -1,27 +1,15 @@
--- What the enums of this crate say: numbers, and document 01's refusals.
+-- What the enums of this crate say in document 01's numbers.
 use mathlib.Core.Path.{_≡_}
-use mathlib.Core.Bool.{true, false}
-use mathlib.Core.List.{List, _∷_, _++_}
-use Prim.Native.Nat.{ℕ, _-_, _≤_, _<_}
-use lib.IntN.{pos, negℤ}
+use mathlib.Core.List.{List}
+use Prim.Native.Nat.{ℕ, _-_, _<_}
 use lib.ListN.{length}
-use Rattle.model.specs.Dimacs.{numbers}
-use Rattle.model.specs.Assignment.{truth}
-use Rattle.model.specs.Reply.{isNumber, assigned}
-use Rattle.model.specs.Calls.{Answer, refused, formed}
-use Rattle.listing.specs.declared.Piece.{Piece}
-use Rattle.listing.specs.declared.Piece.the-variants as piece
+use Rattle.formula.specs.Assignment.{truth}
+use Rattle.calls.specs.Reply.{assigned}
+use Rattle.calls.specs.Calls.{Answer, refused, formed}
 use Rattle.listing.specs.declared.Fault.{Fault}
 use Rattle.listing.specs.declared.Fault.the-variants.{End, Line, Status, Closing, Above, Twice}
 use Rattle.listing.specs.declared.Listing.{Listing}
 use Rattle.listing.specs.declared.Listing.the-variants.{Listed, Refused}
-
--- A piece of a v line is a number, which is read off it and the space after it; or it is none.
-abbrev pub Said : List ℕ → Piece → Type 0
-Said p (piece.Plus n) = (isNumber p ≡ true) × ((others : List ℕ) → numbers (p ++ (32 ∷ others)) ≡ pos n ∷ numbers others)
-Said p (piece.Minus n) =
-    (isNumber p ≡ true) × (1 ≤ n) × ((others : List ℕ) → numbers (p ++ (32 ∷ others)) ≡ negℤ (pos n) ∷ numbers others)
-Said p piece.Unknown = isNumber p ≡ false
 
 -- "31 not empty and the last byte is not 0x0A; 32 a line of no known form; 33 not just one s line, or a v line before it; 34 no number 0, or
 -- a number after it; 35 magnitude above the variable count; 36 a variable given twice"

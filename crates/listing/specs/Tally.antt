@@ -7,8 +7,8 @@ use lib.Dec.{leb, eqb}
 use lib.IntN.{ℤ, pos, negsuc, natAbs}
 use lib.ListN.{length, getD, set, drop}
 use Rattle.model.specs.Lists.{pick, all}
-use Rattle.model.specs.Dimacs.{numbers}
-use Rattle.model.specs.Reply.{split, lines, spaced, isNumber, statusLine, valueLine, known, lineNumbers}
+use Rattle.formula.specs.Dimacs.{numbers}
+use Rattle.calls.specs.Reply.{split, lines, spaced, isNumber, statusLine, valueLine, known, lineNumbers}
 use Rattle.listing.specs.declared.Tally.{Tally}
 use Rattle.listing.specs.declared.Lines.{Lines}
 use Rattle.listing.specs.declared.Lines.the-variants.{Known, Unknown}

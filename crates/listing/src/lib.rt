@@ -1,15 +1,14 @@
 // The text of a solver's reply: its lines, its numbers, and a mark for each number that it lists. Nothing here knows of a sheet; the text's
 // numbers are judged by the lent marks, one for each number from 0 on.
+use numerals::Piece;
+use numerals::read_number;
 use scan::find;
 ghost use mathlib.Core.Path.{_≡_};
 ghost use mathlib.Core.Bool.{_||_};
 ghost use Prim.Native.Nat.{_+_, _<_, _≤_};
 ghost use lib.ListN.{length, replicate};
-ghost use Rattle.model.specs.Lists.{pick};
-ghost use Rattle.model.specs.Dimacs.{valueOf};
-ghost use Rattle.model.specs.Reply.{magnitude};
 ghost use Rattle.listing.specs.Tally.{markOf, noted, marked, ReadValues, ReadLine, ReadLines};
-ghost use Rattle.listing.specs.Answer.{numberOf, Said, Form};
+ghost use Rattle.listing.specs.Answer.{numberOf, Form};
 
 // The line end, and the space between numbers.
 const LINE_END: u8 = 10;
@@ -22,13 +21,6 @@ const UNLISTED: u8 = 0;
 pub const PLUS: u8 = 1;
 
 const MINUS: u8 = 2;
-
-// A piece of a v line as a number: 0 or more, or with a minus; or no number.
-pub enum Piece {
-    Plus(usize),
-    Minus(usize),
-    Unknown,
-}
 
 // What was met so far: an s line, a second one, a v line before any s line, a number after a 0, a number that has no mark, a number met
 // before.
@@ -75,55 +67,6 @@ pub fn number(fault: Fault) -> u8
         Fault::Above => 35,
         Fault::Twice => 36,
     }
-}
-
-// The value of 1 to 9 digits, the first not 0; of other bytes 0.
-fn value(digits: &[u8]) -> usize
-    ensures { λ r. ⌜ (r ≡ pick (magnitude (now (digits .entry))) (valueOf (now (digits .entry))) 0) ⌝ }
-{
-    let n = digits.len();
-    if n == 0 || n > 9 {
-        return 0;
-    }
-    if digits[0] == b'0' {
-        return 0;
-    }
-    let mut sum: usize = 0;
-    let mut i: usize = 0;
-    while i < n {
-        let x = digits[i];
-        if x < b'0' || x > b'9' {
-            return 0;
-        }
-        sum = sum * 10 + ((x - b'0') as usize);
-        i += 1;
-    }
-    sum
-}
-
-// The number that a piece of a v line says.
-fn read_number(piece: &[u8]) -> Piece
-    ensures { λ r. ⌜ Said (now (piece .entry)) r ⌝ }
-{
-    let len = piece.len();
-    if len == 0 {
-        return Piece::Unknown;
-    }
-    if piece[0] == b'-' {
-        let n = value(&piece[1..]);
-        if n == 0 {
-            return Piece::Unknown;
-        }
-        return Piece::Minus(n);
-    }
-    if piece[0] == b'0' && len == 1 {
-        return Piece::Plus(0);
-    }
-    let n = value(piece);
-    if n == 0 {
-        return Piece::Unknown;
-    }
-    Piece::Plus(n)
 }
 
 // One of two conditions, as a function: a caller that wrote `||` would branch, and its proof would need a case for each way.

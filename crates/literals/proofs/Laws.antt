@@ -2,7 +2,7 @@
 use mathlib.Core.Path.{_≡_, refl, sym, ap, ap₂, _∙_, fun-ext}
 use mathlib.Core.Bool.{Bool, true, false}
 use mathlib.Core.List.{List, [], _∷_, _++_, map}
-use Prim.Native.Nat.{ℕ, suc, _+_, _-_, _*_, _/_, _%_, _<_, _≤_}
+use Prim.Native.Nat.{ℕ, zero, suc, _+_, _-_, _*_, _/_, _%_, _<_, _≤_}
 use native.Mathlib.Omega.{arith}
 use lib.Dec.{ltb}
 use lib.ListN.{length, getD, drop, replicate, length-map}
@@ -11,17 +11,19 @@ use Rattle.model.specs.Lists.{All, pick, upTo}
 use Rattle.model.specs.Sheet.{Sheet, template}
 use Rattle.model.specs.Range.{InRange}
 use Rattle.model.specs.Cells.{Cell, letter, place, cells}
-use Rattle.model.specs.Clause.{K, Term, yes, SomeValue, terms, holds, lacks, isBlank, notBlank, only, blank, cell}
-use Rattle.model.specs.Numbering.{LocationIn, VariableIn, number}
+use Rattle.formula.specs.Clause.{K, Term, yes, ClauseId, SomeValue, terms, holds, lacks, isBlank, notBlank, only, blank, cell}
+use Rattle.formula.specs.Numbering.{LocationIn, VariableIn, number, clause}
+use Rattle.formula.specs.Dimacs.{clauseLine}
 use Rattle.model.proofs.Lists.{at, by-test}
 use Rattle.model.proofs.Keeping.{map-map, length-from}
 use Rattle.model.proofs.Seams.{drop-replicate}
 use Rattle.model.proofs.Templates.{template-in}
-use Rattle.model.proofs.Small.{letters-few, fields-few, limit-small, cells-small}
-use Rattle.model.proofs.Valid.{CellIn, cells-in}
+use Rattle.formula.proofs.Small.{letters-few, fields-few, limit-small, cells-small}
+use Rattle.formula.proofs.Valid.{CellIn, cells-in}
 use Rattle.shape.specs.Bytes.{cellByte, sideBytes}
 use Rattle.shape.proofs.Sides.{cell-at, past-at}
-use Rattle.dimacs.specs.Codes.{termCode}
+use Rattle.dimacs.specs.Codes.{termCode, codesLine}
+use Rattle.dimacs.proofs.Coded.{terms-line, padded-line}
 use Rattle.literals.specs.Name.{placeCode, cellCode, nine}
 
 -- a location's places in its two sides
@@ -135,3 +137,14 @@ some-nine s f c first n is e few =
     (ap (λ (g : ℕ → ℕ). map g (upTo n)) (fun-ext same) ∙ sym (map-map (termCode s) value (upTo n)))
     (drop-replicate n 9 0 few ∙ ap (λ k. replicate (9 - k) 0) (sym l))
     ∙ ap (λ k. map (termCode s) (map value (upTo k)) ++ replicate (9 - length (map value (upTo k))) 0) e
+
+-- what is written of the nine codes of a clause is its line
+zeros : (n : ℕ) → All (λ (z : ℕ). z ≡ 0) (replicate n 0)
+unfolding All
+zeros zero = tt
+zeros (suc n) = (refl, zeros n)
+
+pub nine-line : (s : Sheet) (q : ClauseId) → codesLine (nine s q) ≡ clauseLine (clause s q)
+unfolding nine
+nine-line s q =
+    padded-line (map (termCode s) (terms s q)) (replicate (9 - length (terms s q)) 0) (zeros (9 - length (terms s q))) ∙ terms-line s q

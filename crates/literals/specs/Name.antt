@@ -6,9 +6,9 @@ use lib.ListN.{length, replicate}
 use Rattle.model.specs.Lists.{pick}
 use Rattle.model.specs.Sheet.{Sheet}
 use Rattle.model.specs.Cells.{Cell, letter, place}
-use Rattle.model.specs.Clause as model
-use Rattle.model.specs.Clause.{K, cell, terms}
-use Rattle.model.specs.Numbering.{number}
+use Rattle.formula.specs.Clause as model
+use Rattle.formula.specs.Clause.{K, cell, terms}
+use Rattle.formula.specs.Numbering.{number}
 use Rattle.dimacs.specs.Codes.{termCode}
 use Rattle.literals.specs.declared.ClauseId.{ClauseId}
 use Rattle.literals.specs.declared.ClauseId.the-variants.{SomeValue, NotBoth, BlankTail, Start, Left, Right, Both, Match, End, Zero, Add, Bound}

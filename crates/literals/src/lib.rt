@@ -10,11 +10,11 @@ ghost use lib.IntN.{pos, _+ℤ_, _*ℤ_};
 ghost use Rattle.model.specs.Sheet.{sheetOf, limit, template, constraint, coefficient};
 ghost use Rattle.model.specs.Range.{Admitted};
 ghost use Rattle.model.specs.Cells.{cells};
-ghost use Rattle.model.specs.Clause.{K, S, T, yes, no, only, blank};
-ghost use Rattle.model.specs.Clause as model;
-ghost use Rattle.model.specs.Numbering.{VariableIn};
-ghost use Rattle.model.specs.Numbering as variable;
-ghost use Rattle.model.specs.Count.{PlaceIn, IdIn};
+ghost use Rattle.formula.specs.Clause.{K, S, T, yes, no, only, blank};
+ghost use Rattle.formula.specs.Clause as model;
+ghost use Rattle.formula.specs.Numbering.{VariableIn};
+ghost use Rattle.formula.specs.Numbering as variable;
+ghost use Rattle.formula.specs.Count.{PlaceIn, IdIn};
 ghost use Rattle.dimacs.specs.Codes.{termCode};
 ghost use Rattle.literals.specs.Name.{nameOf, cellCode, nine};
 
@@ -49,21 +49,21 @@ const IS: usize = 0;
 const IS_NOT: usize = 1;
 
 // The code of K(f,c,a) or, with sign 1, of its negation; so of S(p,i,j) and of T(r,k,n).
-fn place_code(sheet: &[u8], f: usize, c: usize, a: usize, sign: usize) -> usize
+pub fn place_code(sheet: &[u8], f: usize, c: usize, a: usize, sign: usize) -> usize
     requires { ⌜ Admitted (now sheet) × VariableIn (sheetOf (now sheet)) (K f c a) × (sign ≤ 1) ⌝ }
     ensures { λ r. ⌜ r ≡ 2 * variable.number (sheetOf (now (sheet .entry))) (K f c a) + sign ⌝ }
 {
     2 * numbering::place_number(sheet, f, c, a) + sign
 }
 
-fn location_code(sheet: &[u8], p: usize, i: usize, j: usize, sign: usize) -> usize
+pub fn location_code(sheet: &[u8], p: usize, i: usize, j: usize, sign: usize) -> usize
     requires { ⌜ Admitted (now sheet) × VariableIn (sheetOf (now sheet)) (S p i j) × (sign ≤ 1) ⌝ }
     ensures { λ r. ⌜ r ≡ 2 * variable.number (sheetOf (now (sheet .entry))) (S p i j) + sign ⌝ }
 {
     2 * numbering::location_number(sheet, p, i, j) + sign
 }
 
-fn sum_code(sheet: &[u8], r: usize, k: usize, n: i16, sign: usize) -> usize
+pub fn sum_code(sheet: &[u8], r: usize, k: usize, n: i16, sign: usize) -> usize
     requires { ⌜ Admitted (now sheet) × VariableIn (sheetOf (now sheet)) (T r k n) × (sign ≤ 1) ⌝ }
     ensures { λ q. ⌜ q ≡ 2 * variable.number (sheetOf (now (sheet .entry))) (T r k n) + sign ⌝ }
 {
@@ -71,7 +71,7 @@ fn sum_code(sheet: &[u8], r: usize, k: usize, n: i16, sign: usize) -> usize
 }
 
 // The code of "cell i is a" or, with sign 1, of "cell i is not a": 0 for a letter cell, and past the last cell.
-fn cell_code(sheet: &[u8], p: usize, side: usize, i: usize, a: usize, sign: usize) -> usize
+pub fn cell_code(sheet: &[u8], p: usize, side: usize, i: usize, a: usize, sign: usize) -> usize
     requires { ⌜ Admitted (now sheet) × (p < length (sheetOf (now sheet) .equations)) × (i ≤ 24) × (a ≤ blank (sheetOf (now sheet))) × (sign ≤ 1) ⌝ }
     ensures { λ r. ⌜ r ≡ cellCode (sheetOf (now (sheet .entry))) (cells (sheetOf (now (sheet .entry))) (template (sheetOf (now (sheet .entry))) p side)) i a sign ⌝ }
 {
@@ -210,7 +210,7 @@ fn sum_with(sheet: &[u8], r: usize, k: usize, n: i16, d: usize) -> i16
     requires { ⌜ Admitted (now sheet) × IdIn (sheetOf (now sheet)) (model.Add r k n d) ⌝ }
     ensures { λ q. ⌜ q ≡ n +ℤ coefficient (constraint (sheetOf (now (sheet .entry))) r) k *ℤ pos d ⌝ }
 {
-    n + (sheet::coefficient(sheet, r, k) as i16) * (d as i16)
+    n + (parts::coefficient(sheet, r, k) as i16) * (d as i16)
 }
 
 // Place d - 1 of field k is blank, so that the field is shorter than d: no literal where d is 0.

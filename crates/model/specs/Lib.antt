@@ -5,12 +5,3 @@ pub mod Word
 pub mod Solvable
 pub mod Cells
 pub mod Filling
-pub mod Clause
-pub mod Numbering
-pub mod Dimacs
-pub mod Assignment
-pub mod Reply
-pub mod Count
-pub mod Calls
-pub mod Report
-pub mod Rules

@@ -12,12 +12,12 @@ use mir.Syntax.{w16, w64}
 use mir.Val.{Fits, SFits, toZ, ofZ}
 use Rattle.model.specs.Sheet.{Sheet, constraint}
 use Rattle.model.specs.Range.{InRange}
-use Rattle.model.specs.Clause.{lowest, least, fields}
-use Rattle.model.specs.Numbering.{SumIn}
+use Rattle.formula.specs.Clause.{lowest, least, fields}
+use Rattle.formula.specs.Numbering.{SumIn}
 use Rattle.model.proofs.Lists.{never}
-use Rattle.model.proofs.Integers.{from-least}
+use Rattle.formula.proofs.Integers.{from-least}
 use Rattle.model.proofs.Sums.{abs-add}
-use Rattle.model.proofs.Small.{fields-few, least-small, spread-small}
+use Rattle.formula.proofs.Small.{fields-few, least-small, spread-small}
 use Rattle.scan.proofs.Machine.{small-fits, small-back}
 
 pub negative-lowest : (c : ℤ) (n : ℕ) → ltZ c (pos 0) ≡ true → c *ℤ pos n ≡ lowest c n

@@ -7,10 +7,10 @@ ghost use lib.IntN.{natAbs};
 ghost use Rattle.model.specs.Lists.{total};
 ghost use Rattle.model.specs.Sheet.{sheetOf, constraint};
 ghost use Rattle.model.specs.Range.{Admitted};
-ghost use Rattle.model.specs.Clause.{K, S, T};
-ghost use Rattle.model.specs.Clause as model;
-ghost use Rattle.model.specs.Numbering.{VariableIn, rowSize, variableCount, number};
-ghost use Rattle.model.specs.Count.{parts, variableCounts};
+ghost use Rattle.formula.specs.Clause.{K, S, T};
+ghost use Rattle.formula.specs.Clause as model;
+ghost use Rattle.formula.specs.Numbering.{VariableIn, rowSize, variableCount, number};
+ghost use Rattle.formula.specs.Count.{parts, variableCounts};
 ghost use Rattle.shape.specs.Name.{sectionOf};
 
 // The least product of a coefficient and a length up to n.
@@ -43,7 +43,7 @@ pub fn least(sheet: &[u8], r: usize, k: usize) -> i16
     let mut sum: i16 = 0;
     let mut f: usize = 0;
     while f < k {
-        sum = sum + lowest(sheet::coefficient(sheet, r, f), shape::limit(sheet, f));
+        sum = sum + lowest(parts::coefficient(sheet, r, f), shape::limit(sheet, f));
         f += 1;
     }
     sum
@@ -57,7 +57,7 @@ pub fn spread(sheet: &[u8], r: usize, k: usize) -> usize
     let mut sum: usize = 0;
     let mut f: usize = 0;
     while f < k {
-        sum = sum + magnitude(sheet::coefficient(sheet, r, f)) * shape::limit(sheet, f);
+        sum = sum + magnitude(parts::coefficient(sheet, r, f)) * shape::limit(sheet, f);
         f += 1;
     }
     sum

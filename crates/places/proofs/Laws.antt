@@ -13,15 +13,15 @@ use Rattle.model.specs.Lists.{from, upTo, keep, all}
 use Rattle.model.specs.Sheet.{Sheet, limit, sheetOf}
 use Rattle.model.specs.Range.{Admitted}
 use Rattle.model.specs.Word.{Legal}
-use Rattle.model.specs.Clause.{K, blank, fields}
-use Rattle.model.specs.Numbering.{variables, number}
-use Rattle.model.specs.Assignment.{Assignment, truth, upToBlank, held, trueValues, spelled}
-use Rattle.model.specs.Reply.{allSingle, blanksLast, noneAfterBlank}
+use Rattle.formula.specs.Clause.{K, blank, fields}
+use Rattle.formula.specs.Numbering.{variables, number}
+use Rattle.formula.specs.Assignment.{Assignment, truth, upToBlank, held, trueValues, spelled}
+use Rattle.calls.specs.Reply.{allSingle, blanksLast, noneAfterBlank}
 use Rattle.model.proofs.Lists.{by-test, from-at}
 use Rattle.model.proofs.Keeping.{keep-yes, keep-no, length-map-from, map-next}
 use Rattle.model.proofs.Seams.{store-next, drop-replicate}
-use Rattle.model.proofs.KClauses.{spelled-text, spelled-legal}
-use Rattle.model.proofs.Numbering.{number-small, variable-count}
+use Rattle.formula.proofs.KClauses.{spelled-text, spelled-legal}
+use Rattle.formula.proofs.Numbering.{number-small, variable-count}
 use Rattle.places.specs.declared.Test.{Test}
 use Rattle.places.specs.declared.Test.the-variants.{Single, BlanksLast}
 use Rattle.places.specs.Test.{fieldPasses, allPass}

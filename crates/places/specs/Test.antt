@@ -6,9 +6,9 @@ use lib.Dec.{eqb}
 use lib.ListN.{length}
 use Rattle.model.specs.Lists.{upTo, all}
 use Rattle.model.specs.Sheet.{Sheet, limit}
-use Rattle.model.specs.Clause.{blank}
-use Rattle.model.specs.Assignment.{Assignment, trueValues, held}
-use Rattle.model.specs.Reply.{allSingle, blanksLast, noneAfterBlank}
+use Rattle.formula.specs.Clause.{blank}
+use Rattle.formula.specs.Assignment.{Assignment, trueValues, held}
+use Rattle.calls.specs.Reply.{allSingle, blanksLast, noneAfterBlank}
 use Rattle.places.specs.declared.Test.{Test}
 use Rattle.places.specs.declared.Test.the-variants.{Single, BlanksLast}
 

@@ -11,8 +11,8 @@ ghost use lib.ListN.{length, take};
 ghost use mathlib.Core.Path.{_≡_};
 ghost use Rattle.model.specs.Lists.{Puts};
 ghost use Rattle.model.specs.Sheet.{sheetOf};
-ghost use Rattle.model.specs.Calls.{replying};
-ghost use Rattle.model.specs.Report.{mostReport, printed};
+ghost use Rattle.calls.specs.Calls.{replying};
+ghost use Rattle.calls.specs.Report.{mostReport, printed};
 
 // Of a text the first 65,537 bytes decide the answer: one more than are allowed.
 const TEXT: usize = 65537;

@@ -7,19 +7,19 @@ use lib.ListN.{length, length-append, length-map}
 use Rattle.model.specs.Lists.{each, upTo, Puts, Bytes}
 use Rattle.model.specs.Sheet.{got, rest, Accepted, sheetOf, equation, letterOf}
 use Rattle.model.specs.Word.{text, letterBytes, spell}
-use Rattle.model.specs.Dimacs.{decimal}
+use Rattle.formula.specs.Dimacs.{decimal}
 use Rattle.model.specs.Filling.{filling}
-use Rattle.model.specs.Report.{refusedLine, line, fieldName, fieldLine, pairName, pairLine}
-use Rattle.model.specs.Calls.{finished, checking}
+use Rattle.calls.specs.Report.{refusedLine, line, fieldName, fieldLine, pairName, pairLine}
+use Rattle.calls.specs.Calls.{finished, checking}
 use Rattle.model.proofs.Lists.{each-none, each-more}
 use Rattle.model.proofs.Keeping.{each-short}
-use Rattle.model.proofs.Figures.{decimal-short-three}
+use Rattle.formula.proofs.Figures.{decimal-short-three}
 use Rattle.model.proofs.Seams.{Written, nothing, more}
 use Rattle.model.proofs.Templates.{template-room}
-use Rattle.model.proofs.Passed.{answered, filling-read}
+use Rattle.calls.proofs.Passed.{answered, filling-read}
 use Rattle.fields.specs.declared.Field.{Field}
 use Rattle.fields.specs.Memory.{meaning, Held}
-use Rattle.substitution.proofs.Meaning.{short-at}
+use Rattle.judge.proofs.Meaning.{short-at}
 
 -- a line's pieces, put together one after another
 pub line-pieces : (name : List ℕ) (n : ℕ) (t : List ℕ) → ((name ++ ((48 + n) ∷ 61 ∷ [])) ++ t) ++ (10 ∷ []) ≡ line name n t

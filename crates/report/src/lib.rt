@@ -11,9 +11,9 @@ ghost use Rattle.model.specs.Lists.{each, upTo, All, Puts};
 ghost use Rattle.model.specs.Sheet.{Accepted, sheetOf};
 ghost use Rattle.model.specs.Word.{letterBytes};
 ghost use Rattle.model.specs.Filling.{filling, substitutionIn};
-ghost use Rattle.model.specs.Report.{refusedLine, fieldLine, pairLine, mostFieldLines, mostPairLines, mostReport};
-ghost use Rattle.model.specs.Report as model;
-ghost use Rattle.model.specs.Calls.{finished, checking};
+ghost use Rattle.calls.specs.Report.{refusedLine, fieldLine, pairLine, mostFieldLines, mostPairLines, mostReport};
+ghost use Rattle.calls.specs.Report as model;
+ghost use Rattle.calls.specs.Calls.{finished, checking};
 ghost use Rattle.fields.specs.Memory.{Held, meaning};
 
 // Room for any report, and for the line of any refusal.
@@ -38,7 +38,7 @@ fn field_lines(buf: &mut [u8], at: usize, sheet: &[u8], g: Substitution) -> usiz
     requires { ⌜ Held (now sheet) g × (at + mostFieldLines ≤ length (now buf)) ⌝ }
     ensures { λ r. ⌜ Puts (now (buf .entry)) at (each (upTo (length (sheetOf (now (sheet .entry)) .limits))) (fieldLine (sheetOf (now (sheet .entry))) (meaning (now (sheet .entry)) g))) (now (buf .exit)) r ⌝ }
 {
-    let fields = sheet::four_counts(sheet).fields;
+    let fields = parts::four_counts(sheet).fields;
     let mut past = at;
     let mut f: u8 = 0;
     while f < fields {
@@ -55,12 +55,12 @@ fn pair_lines(buf: &mut [u8], at: usize, sheet: &[u8], g: Substitution) -> usize
     requires { ⌜ Held (now sheet) g × (at + mostPairLines ≤ length (now buf)) ⌝ }
     ensures { λ r. ⌜ Puts (now (buf .entry)) at (each (upTo (length (sheetOf (now (sheet .entry)) .equations))) (pairLine (sheetOf (now (sheet .entry))) (meaning (now (sheet .entry)) g))) (now (buf .exit)) r ⌝ }
 {
-    let equations = sheet::four_counts(sheet).equations;
+    let equations = parts::four_counts(sheet).equations;
     let mut past = at;
     let mut p: u8 = 0;
     while p < equations {
         let mut word = [0u8; WIDEST];
-        let n = words::spell(&mut word, sheet::template(sheet, wide(p), 0), g);
+        let n = words::spell(&mut word, parts::template(sheet, wide(p), 0), g);
         past = line(buf, past, b"pair ", p, sheet, &word[..n]);
         p += 1;
     }

@@ -1,5 +1,2 @@
 pub mod Machine
-mod Tests
-mod Rows
-pub mod Walks
 pub mod Terms

@@ -2,7 +2,7 @@
 use mathlib.Core.List.{List}
 use Prim.Native.Nat.{ℕ}
 use Rattle.model.specs.Lists.{Puts}
-use Rattle.model.specs.Report.{SearchPrints}
+use Rattle.calls.specs.Report.{SearchPrints}
 
 pub record Prints (b before after : List ℕ) (n : ℕ) : Type 0 where
   pub text : List ℕ

@@ -9,7 +9,7 @@ use report::MOST_REPORT;
 use sheet::ENOUGH;
 ghost use Prim.Native.Nat.{_≤_};
 ghost use lib.ListN.{length};
-ghost use Rattle.model.specs.Report.{mostReport};
+ghost use Rattle.calls.specs.Report.{mostReport};
 ghost use Rattle.search.specs.Printed.{Prints};
 
 fn main() {

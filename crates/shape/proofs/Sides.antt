@@ -10,13 +10,13 @@ use borrow.Author.Tests.{ltb-true, ltb-false, lt-ltb, le-ltb, ne-eqb}
 use Rattle.model.specs.Sheet.{Sheet, template}
 use Rattle.model.specs.Range.{InRange}
 use Rattle.model.specs.Cells.{Cell, letter, place, cells}
-use Rattle.model.specs.Clause.{cell}
-use Rattle.model.specs.Count.{cellSide, side}
+use Rattle.formula.specs.Clause.{cell}
+use Rattle.formula.specs.Count.{cellSide, side}
 use Rattle.model.proofs.Lists.{by-test, at}
 use Rattle.model.proofs.Keeping.{map-at, second-at}
-use Rattle.model.proofs.Small.{letters-few, fields-few, limit-small}
+use Rattle.formula.proofs.Small.{letters-few, fields-few, limit-small}
 use Rattle.model.proofs.Templates.{template-in}
-use Rattle.model.proofs.Valid.{CellIn, cells-in}
+use Rattle.formula.proofs.Valid.{CellIn, cells-in}
 use Rattle.shape.specs.Bytes.{cellByte, sideBytes, sideOf}
 
 module _ (us : List Cell) (i : ℕ) where

@@ -1,5 +1,5 @@
 -- What the enum of this crate says in the model's words.
-use Rattle.model.specs.Count as model
+use Rattle.formula.specs.Count as model
 use Rattle.shape.specs.declared.Section.{Section}
 use Rattle.shape.specs.declared.Section.the-variants.{Fields, Equations, Constraints}
 

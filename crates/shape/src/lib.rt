@@ -8,7 +8,7 @@ ghost use lib.ListN.{length};
 ghost use Rattle.model.specs.Lists.{All, upTo, Puts};
 ghost use Rattle.model.specs.Sheet.{symbolOf, sheetOf, template};
 ghost use Rattle.model.specs.Sheet as model;
-ghost use Rattle.model.specs.Count as count;
+ghost use Rattle.formula.specs.Count as count;
 ghost use Rattle.model.specs.Range.{SymbolIn, Admitted};
 ghost use Rattle.model.specs.Cells.{place, symbolCells, cells};
 ghost use Rattle.shape.specs.Bytes.{cellByte, sideBytes};
@@ -37,28 +37,28 @@ pub fn letters(sheet: &[u8]) -> usize
     requires { ⌜ Admitted (now sheet) ⌝ }
     ensures { λ r. ⌜ r ≡ length (sheetOf (now (sheet .entry)) .letters) ⌝ }
 {
-    wide(sheet::four_counts(sheet).letters)
+    wide(parts::four_counts(sheet).letters)
 }
 
 pub fn fields(sheet: &[u8]) -> usize
     requires { ⌜ Admitted (now sheet) ⌝ }
     ensures { λ r. ⌜ r ≡ length (sheetOf (now (sheet .entry)) .limits) ⌝ }
 {
-    wide(sheet::four_counts(sheet).fields)
+    wide(parts::four_counts(sheet).fields)
 }
 
 pub fn equations(sheet: &[u8]) -> usize
     requires { ⌜ Admitted (now sheet) ⌝ }
     ensures { λ r. ⌜ r ≡ length (sheetOf (now (sheet .entry)) .equations) ⌝ }
 {
-    wide(sheet::four_counts(sheet).equations)
+    wide(parts::four_counts(sheet).equations)
 }
 
 pub fn constraints(sheet: &[u8]) -> usize
     requires { ⌜ Admitted (now sheet) ⌝ }
     ensures { λ r. ⌜ r ≡ length (sheetOf (now (sheet .entry)) .constraints) ⌝ }
 {
-    wide(sheet::four_counts(sheet).constraints)
+    wide(parts::four_counts(sheet).constraints)
 }
 
 // How many parts a section has.
@@ -78,7 +78,7 @@ pub fn limit(sheet: &[u8], f: usize) -> usize
     requires { ⌜ Admitted (now sheet) × (f < length (sheetOf (now sheet) .limits)) ⌝ }
     ensures { λ r. ⌜ (r ≡ model.limit (sheetOf (now (sheet .entry))) f) × (r ≤ 8) ⌝ }
 {
-    wide(sheet::limit(sheet, f))
+    wide(parts::limit(sheet, f))
 }
 
 // The first places of field f, as many as n, at an offset of the buffer. Returns the offset past them.
@@ -104,7 +104,7 @@ fn put_symbol(buf: &mut [u8], at: usize, sheet: &[u8], symbol: u8) -> usize
         return at + 1;
     }
     let f = symbol - FIRST_FIELD;
-    put_places(buf, at, f, sheet::limit(sheet, wide(f)))
+    put_places(buf, at, f, parts::limit(sheet, wide(f)))
 }
 
 // The cells of a template, from the front of the buffer on. Returns how many there are.
@@ -127,7 +127,7 @@ pub fn side(sheet: &[u8], p: usize, side: usize) -> [u8; ROOM]
     ensures { λ r. ⌜ r ≡ sideBytes (cells (sheetOf (now (sheet .entry))) (template (sheetOf (now (sheet .entry))) p side)) ⌝ }
 {
     let mut bytes = [USED; ROOM];
-    put_cells(&mut bytes, sheet, sheet::template(sheet, p, side));
+    put_cells(&mut bytes, sheet, parts::template(sheet, p, side));
     bytes
 }
 
@@ -137,5 +137,5 @@ pub fn width(sheet: &[u8], p: usize, side: usize) -> usize
     ensures { λ r. ⌜ (r ≡ length (cells (sheetOf (now (sheet .entry))) (template (sheetOf (now (sheet .entry))) p side))) × (r ≤ 24) ⌝ }
 {
     let mut bytes = [USED; ROOM];
-    put_cells(&mut bytes, sheet, sheet::template(sheet, p, side))
+    put_cells(&mut bytes, sheet, parts::template(sheet, p, side))
 }

@@ -5,10 +5,10 @@ use lib.ListN.{drop}
 use Rattle.model.specs.Sheet as model
 use Rattle.model.specs.Sheet.{Step, got, fault}
 use Rattle.model.specs.Range.{InRange}
-use Rattle.model.specs.Calls.{Answer, refused, finished, fourCounts}
+use Rattle.calls.specs.Calls.{Answer, refused, finished, fourCounts}
 use Rattle.sheet.specs.declared.Refusal.{Refusal}
 use Rattle.sheet.specs.declared.Refusal.the-variants.{Short, Mark, Version, LetterCount, FieldCount, EquationCount, ConstraintCount, Missing, LeftOver, Letter, Limit, SymbolCount, Symbol, Width, Coefficient}
-use Rattle.sheet.specs.declared.Counts.{Counts}
+use Rattle.parts.specs.Counts.{countsOf}
 use Rattle.sheet.specs.declared.Reading.{Reading}
 use Rattle.sheet.specs.declared.Reading.the-variants.{Accepted, Refused}
 
@@ -30,9 +30,6 @@ numberOf SymbolCount = 12
 numberOf Symbol = 13
 numberOf Width = 14
 numberOf Coefficient = 15
-
-abbrev pub countsOf : Counts → model.Counts
-countsOf c = record { letter-count = c .letters; field-count = c .fields; equation-count = c .equations; constraint-count = c .constraints }
 
 -- "The answer is the four counts."
 abbrev pub answer : Reading → Answer

@@ -1,33 +1,27 @@
-// Reads a sheet: its four counts, or the first refusal in document 01's order; and hands out what an accepted sheet says. It knows nothing of what a sheet means.
-mod parts;
-
-pub use parts::coefficient;
-pub use parts::four_counts;
-pub use parts::letter;
-pub use parts::limit;
-pub use parts::most;
-pub use parts::template;
+// Reads a sheet: its four counts, or the first refusal in document 01's order. It knows nothing of what a sheet means.
+use parts::Counts;
+use rows::Fault;
+use rows::Progress;
 use scan::CONSTRAINT_COUNT;
 use scan::EQUATION_COUNT;
 use scan::FIELD_COUNT;
-use scan::Fault;
 use scan::HEADER;
 use scan::LETTER_COUNT;
-use scan::Progress;
 use scan::VERSION_HIGH;
 use scan::VERSION_LOW;
 use scan::starts_with;
-use scan::walked;
 use scan::wide;
+use sections::walked;
 ghost use mathlib.Core.Path.{_≡_};
 ghost use Prim.Native.Nat.{_≤_};
 ghost use lib.ListN.{length, drop};
 ghost use Rattle.model.specs.Lists.{between};
-ghost use Rattle.model.specs.Calls.{readingOf, reading};
+ghost use Rattle.calls.specs.Calls.{readingOf, reading};
 ghost use Rattle.model.specs.Sheet.{ended, opening};
 ghost use Rattle.model.specs.Sheet as model;
-ghost use Rattle.scan.specs.Progress as scan;
-ghost use Rattle.sheet.specs.Answer.{numberOf, countsOf, answer, openingOf, admitted};
+ghost use Rattle.rows.specs.Progress as rows;
+ghost use Rattle.sheet.specs.Answer.{numberOf, answer, openingOf, admitted};
+ghost use Rattle.parts.specs.Counts.{countsOf};
 
 // What reading refuses a sheet for, by document 01's numbers from 1 to 15.
 pub enum Refusal {
@@ -46,14 +40,6 @@ pub enum Refusal {
     Symbol,
     Width,
     Coefficient,
-}
-
-// The four counts of a sheet.
-pub struct Counts {
-    pub letters: u8,
-    pub fields: u8,
-    pub equations: u8,
-    pub constraints: u8,
 }
 
 // The answer of reading.
@@ -143,7 +129,7 @@ fn header(sheet: &[u8]) -> Reading
 
 // The refusal of a fault of the walk.
 fn refusal_of(fault: Fault) -> Refusal
-    ensures { λ r. ⌜ numberOf r ≡ scan.numberOf fault ⌝ }
+    ensures { λ r. ⌜ numberOf r ≡ rows.numberOf fault ⌝ }
 {
     match fault {
         Fault::Missing => Refusal::Missing,

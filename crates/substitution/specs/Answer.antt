@@ -2,7 +2,7 @@
 use mathlib.Core.Bool.{true, false}
 use mathlib.Core.List.{[], _∷_}
 use Prim.Native.Nat.{ℕ}
-use Rattle.model.specs.Calls.{Answer, refused, finished, verdict}
+use Rattle.calls.specs.Calls.{Answer, refused, finished, verdict}
 use Rattle.sheet.specs.Answer as sheet
 use Rattle.fields.specs.Answer as fields
 use Rattle.substitution.specs.declared.Refusal.{Refusal}

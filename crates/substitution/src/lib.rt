@@ -1,6 +1,4 @@
 // What a sheet asks of a substitution: whether it solves the sheet, and what a template spells under it.
-mod judge;
-
 pub use judge::solves;
 use scan::WIDEST;
 use scan::wide;
@@ -9,7 +7,7 @@ ghost use Prim.Native.Nat.{_<_};
 ghost use lib.ListN.{length};
 ghost use Rattle.model.specs.Sheet.{Accepted, sheetOf};
 ghost use Rattle.model.specs.Filling.{filling};
-ghost use Rattle.model.specs.Calls.{ofFilling, verdict, checking, spelling, spellingOf, Writes};
+ghost use Rattle.calls.specs.Calls.{ofFilling, verdict, checking, spelling, spellingOf, Writes};
 ghost use Rattle.model.specs.Word as model;
 ghost use Rattle.substitution.specs.Answer.{numberOf, checked, spelled};
 
@@ -91,7 +89,7 @@ fn spell_filling(
         fields::Admission::Admitted => {
             let g = fields::load(sheet, bytes);
             let mut word = [0u8; WIDEST];
-            let n = words::spell(&mut word, sheet::template(sheet, equation, side), g);
+            let n = words::spell(&mut word, parts::template(sheet, equation, side), g);
             if buf.len() < n {
                 return Spelling::Refused(Refusal::Room);
             }
@@ -108,7 +106,7 @@ pub fn spell(sheet: &[u8], equation: usize, side: usize, bytes: &[u8], buf: &mut
     match sheet::read(sheet) {
         sheet::Reading::Refused(refusal) => Spelling::Refused(Refusal::Sheet(refusal)),
         sheet::Reading::Accepted(_) => {
-            if equation >= wide(sheet::four_counts(sheet).equations) {
+            if equation >= wide(parts::four_counts(sheet).equations) {
                 return Spelling::Refused(Refusal::Equation);
             }
             if side > 1 {

@@ -19,7 +19,7 @@ use substitution::Spelling;
 ghost use mathlib.Core.Path.{_≡_};
 ghost use mathlib.Core.List.{[], _∷_};
 ghost use Prim.Native.Nat.{_+_, _≤_};
-ghost use Rattle.model.specs.Calls.{finished, checking};
+ghost use Rattle.calls.specs.Calls.{finished, checking};
 
 // Room for a sheet's or a filling's bytes. Document 01 accepts none of more than 159; some vectors
 // have just over 256, so that a length that is kept in one byte would show.
@@ -108,7 +108,7 @@ fn show_difference(sheet: &[u8], filling: &[u8])
     requires { ⌜ checking (now sheet) (now filling) ≡ finished (1 ∷ []) ⌝ }
 {
     let mut buf = [0u8; MOST_BYTES];
-    let fields = wide(sheet::four_counts(sheet).fields);
+    let fields = wide(parts::four_counts(sheet).fields);
     fields::store(&mut buf, fields::load(sheet, filling), fields);
     if !words::same(&buf[..filling.len()], filling) {
         io::write_all(STDOUT_FILENO, b"stored again, the filling differs\n");

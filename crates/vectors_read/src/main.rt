@@ -53,7 +53,7 @@ fn show(name: &[u8], sheet: &[u8]) {
 }
 
 // Prints that a sheet is accepted, and its four counts.
-fn show_counts(counts: sheet::Counts) {
+fn show_counts(counts: parts::Counts) {
     let letters = counts.letters;
     let fields = counts.fields;
     let equations = counts.equations;

@@ -78,7 +78,7 @@ pub fn put_letters(buf: &mut [u8], at: usize, sheet: &[u8], word: &[u8]) -> usiz
 {
     let mut i: usize = 0;
     while i < word.len() {
-        buf[at + i] = sheet::letter(sheet, wide(word[i]));
+        buf[at + i] = parts::letter(sheet, wide(word[i]));
         i += 1;
     }
     at + i

@@ -12,41 +12,31 @@ use Rattle.model.specs.Word.{Solves}
 use Rattle.model.specs.Filling.{encodeFilling}
 use Rattle.model.proofs.Lists.{never}
 use Rattle.model.proofs.Words.{solves-in}
-use Rattle.sheet.proofs.Known.{lent-bytes}
-use Rattle.model.proofs.Small.{fields-few}
-use Rattle.model.proofs.Searching.{search-apart, search-clash}
+use Rattle.parts.proofs.Known.{lent-bytes}
+use Rattle.formula.proofs.Small.{fields-few}
+use Rattle.calls.proofs.Searching.{search-apart, search-clash}
 use Rattle.fields.specs.Memory.{textsOf, meaning, Held}
-use Rattle.automaton.proofs.AllAsked.{whole-asks, answers-solve, solves-answers}
 use Rattle.automaton.proofs.hand_over.Statement.{statement}
 use Rattle.automaton.proofs.hand_over.Tie as tie
 
-whole-requires : tie.Need-whole-requires
-whole-requires c κs = search needs
-
-find-requires : tie.Need-find-requires
-find-requires c κs =
-    let start = c .before .before .before in
-    (start .pre .0, whole-asks (sheetOf (start .args .sheet .now)) (c .whole .result) (c .whole .ensures))
+solve-requires : tie.Need-solve-requires
+solve-requires c κs = search needs
 
 returns : tie.Need-returns
 returns c =
-    let at-find = c .before .before in
-    let start = at-find .before .before .before .before in
-    let b = start .args .sheet .now in
-    search-apart b (start .args .buf .now) (start .pre .0 .0) (start .pre .1) (λ g h.
-    at-find .find .ensures .none (not-true _ (c .if1 .taken)) g (solves-answers b (start .pre .0) (at-find .before .whole .result) (at-find .before .whole .ensures) g h))
+    let at-solve = c .before .before in
+    let start = at-solve .before .before .before in
+    search-apart (start .args .sheet .now) (start .args .buf .now) (start .pre .0 .0) (start .pre .1) (at-solve .solve .ensures .none (not-true _ (c .if1 .taken)))
 
 -- what is found holds a solution
 abbrev start : tie.Else1 → tie.Start
-start c = c .before .before .before .before .before .before
+start c = c .before .before .before .before .before
 
-found-held : (c : tie.Else1) → Held (start c .args .sheet .now) (c .before .before .find .result .substitution)
-found-held c = c .before .before .find .ensures .held (not-false _ (c .if1 .left))
+found-held : (c : tie.Else1) → Held (start c .args .sheet .now) (c .before .before .solve .result .substitution)
+found-held c = c .before .before .solve .ensures .held (not-false _ (c .if1 .left))
 
-found-solves : (c : tie.Else1) → Solves (sheetOf (start c .args .sheet .now)) (meaning (start c .args .sheet .now) (c .before .before .find .result .substitution))
-found-solves c =
-    let at-whole = c .before .before .before in
-    answers-solve (start c .args .sheet .now) (start c .pre .0) (at-whole .whole .result) (at-whole .whole .ensures) _ (c .before .before .find .ensures .answer (not-false _ (c .if1 .left)))
+found-solves : (c : tie.Else1) → Solves (sheetOf (start c .args .sheet .now)) (meaning (start c .args .sheet .now) (c .before .before .solve .result .substitution))
+found-solves c = c .before .before .solve .ensures .solved (not-false _ (c .if1 .left))
 
 solves-requires : tie.Need-solves-requires
 solves-requires c κs = found-held (c .before)
@@ -78,8 +68,8 @@ returns-3 c =
     let s = start found in
     let b = s .args .sheet .now in
     let buf = s .args .buf .now in
-    let g = found .before .before .find .result .substitution in
-    let known = found .before .before .before .before .before .shared-slice-known in
+    let g = found .before .before .solve .result .substitution in
+    let known = found .before .before .before .before .shared-slice-known in
     search-clash b buf (at-store .store .last .0) (lent-bytes b (known .given)) (s .pre .0 .0) (s .pre .1) (meaning b g) (found-solves found)
     (at-store .store .ensures ∙ ap (λ k. encodeFilling (take k (textsOf g)) ++ drop (9 * k) buf) (at-fields .fields .ensures))
 
@@ -87,8 +77,7 @@ pub hand-over-spec : {M : Type 1} → statement M
 hand-over-spec =
     tie.close
     (tie.spec
-    whole-requires
-    find-requires
+    solve-requires
     returns
     solves-requires
     returns-2

@@ -5,7 +5,7 @@ use native.Mathlib.Omega.{arith}
 use lib.ListN.{length}
 use borrow.Author.Needs.{needs}
 use Rattle.model.specs.Range.{Admitted}
-use Rattle.model.proofs.Searching.{searching-sheet, searching-room, search-refused}
+use Rattle.calls.proofs.Searching.{searching-sheet, searching-room, search-refused}
 use Rattle.sheet.specs.Answer.{numberOf, answer, admitted}
 use Rattle.automaton.proofs.search.Statement.{statement}
 use Rattle.automaton.proofs.search.Tie as tie

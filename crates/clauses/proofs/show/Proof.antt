@@ -1,62 +1,54 @@
--- `clauses::show` calls `show_lines` as it asks: with an accepted sheet, and its last line. Assumes nothing.
-use mathlib.Core.Path.{_≡_, sym, ap, _∙_}
-use mathlib.Core.List.{[], _∷_}
+-- `clauses::show` is safe: the buffer has room for what is printed. How many zeros it starts with is never unfolded: there are too many. Assumes nothing.
+use mathlib.Core.Path.{_≡_, sym}
+use mathlib.Core.List.{List}
+use Prim.Native.Nat.{ℕ, _≤_}
 use native.Mathlib.Omega.{arith}
-use lib.ListN.{length}
-use borrow.Author.Needs.{needs}
-use Rattle.model.specs.Sheet.{Accepted, sheetOf}
-use Rattle.model.specs.Clause.{ids}
-use Rattle.model.specs.Calls.{finished, counting}
-use Rattle.model.proofs.Known.{accepted-in-range}
-use Rattle.model.proofs.Operations.{sheet-finished, counting-counts, same-values}
-use Rattle.sheet.proofs.Known.{lent-bytes}
-use Rattle.encoding.specs.Answer.{threeCounts, counted}
+use lib.ListN.{length-replicate, length, replicate}
+use Rattle.model.proofs.Seams.{front-fits, front-length}
+use Rattle.calls.specs.Report.{clausesPrinted}
 use Rattle.clauses.proofs.show.Statement.{statement}
 use Rattle.clauses.proofs.show.Tie as tie
 
-count-requires : tie.Need-count-requires
-count-requires c κs = search needs
+abbrev zeros : ℕ → List ℕ
+zeros n = replicate n 0
 
-enum-known-refusal : tie.Need-enum-known-refusal
-enum-known-refusal c = search needs
+size : (n : ℕ) → n ≡ length (zeros n)
+size n = sym (length-replicate n 0)
 
-number-requires : tie.Need-number-requires
-number-requires c κs = search needs
+room : (n : ℕ) → n ≤ length (zeros n)
+room n = let e = size n in omega arith
 
-show-refusal-requires : tie.Need-show-refusal-requires
-show-refusal-requires c κs = search needs
+slice-aggregate-answer : tie.Need-slice-aggregate-answer
+slice-aggregate-answer c = size 1808838
 
-enum-known-counts : tie.Need-enum-known-counts
-enum-known-counts c = search needs
+answer-requires : tie.Need-answer-requires
+answer-requires c κs = room 1808838
 
-show-lines-requires : tie.Need-show-lines-requires
-unfolding counting
-show-lines-requires c κs =
+array-share-prefix-out : tie.Need-array-share-prefix-out
+array-share-prefix-out c =
+    let at-start = c .before .before .before .before in
+    let at-answer = c .before .answer in
+    front-fits (zeros 1808838) (clausesPrinted (at-start .args .sheet .now)) (at-answer .last .1 .0) (at-answer .result) (at-answer .ensures)
+
+slice-aggregate-write-all : tie.Need-slice-aggregate-write-all
+slice-aggregate-write-all c =
     let at-start = c .before .before .before .before .before in
-    let at-count = c .before .before .before .count in
-    let at-shared-slice-known = c .before .before .before .before .shared-slice-known in
-    let b = at-start .args .sheet .now in
-    let e : counting b ≡ finished (threeCounts (c .before .counts .given .0 .0)) = sym (at-count .ensures) ∙ ap counted (c .before .counts .given .1) in
-    let ok : Accepted b = sheet-finished b _ e in
-    let same = same-values (sym (counting-counts b ok) ∙ e) in
-    let n : length (ids (sheetOf b)) ≡ c .before .counts .given .0 .0 .clauses = cc in
-    ((ok, accepted-in-range b (lent-bytes b (at-shared-slice-known .given)) ok), omega arith)
+    let at-answer = c .before .before .answer in
+    front-length (zeros 1808838) (clausesPrinted (at-start .args .sheet .now)) (at-answer .last .1 .0) (at-answer .result) (at-answer .ensures)
+
+write-all-requires : tie.Need-write-all-requires
+write-all-requires c κs = tt
 
 returns : tie.Need-returns
-returns c = search needs
-
-returns-2 : tie.Need-returns-2
-returns-2 c = search needs
+returns c = tt
 
 pub show-spec : {M : Type 1} → statement M
 show-spec =
     tie.close
     (tie.spec
-    count-requires
-    enum-known-refusal
-    number-requires
-    show-refusal-requires
-    enum-known-counts
-    show-lines-requires
-    returns
-    returns-2)
+    slice-aggregate-answer
+    answer-requires
+    array-share-prefix-out
+    slice-aggregate-write-all
+    write-all-requires
+    returns)

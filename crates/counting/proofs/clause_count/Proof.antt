@@ -1,9 +1,9 @@
 -- `counting::clause_count` meets its contract. Assumes nothing.
 use native.Mathlib.Omega.{arith}
 use Rattle.model.specs.Sheet.{sheetOf}
-use Rattle.model.proofs.Small.{clauses-small}
+use Rattle.formula.proofs.Small.{clauses-small}
 use Rattle.model.proofs.Templates.{well-formed}
-use Rattle.model.proofs.Totals.{clause-count}
+use Rattle.formula.proofs.Totals.{clause-count}
 use Rattle.counting.proofs.Laws.{clauses-known}
 use Rattle.counting.proofs.clause_count.Statement.{statement}
 use Rattle.counting.proofs.clause_count.Tie as tie

@@ -3,8 +3,8 @@ use mathlib.Core.Path.{_≡_, ap, _∙_}
 use native.Mathlib.Omega.{arith}
 use lib.ListN.{length}
 use Rattle.model.specs.Sheet.{sheetOf, constraint}
-use Rattle.model.specs.Clause.{spread}
-use Rattle.model.proofs.Totals.{within-le}
+use Rattle.formula.specs.Clause.{spread}
+use Rattle.formula.proofs.Totals.{within-le}
 use Rattle.counting.proofs.Laws.{constraint-known}
 use Rattle.counting.proofs.constraint_count.Statement.{statement}
 use Rattle.counting.proofs.constraint_count.Tie as tie

@@ -5,8 +5,8 @@ use native.Mathlib.Omega.{arith}
 use lib.ListN.{length}
 use Rattle.model.specs.Lists.{total}
 use Rattle.model.specs.Sheet.{sheetOf}
-use Rattle.model.specs.Clause.{leftCells}
-use Rattle.model.specs.Count.{rowCount}
+use Rattle.formula.specs.Clause.{leftCells}
+use Rattle.formula.specs.Count.{rowCount}
 use Rattle.model.proofs.Keeping.{total-more, total-none}
 use Rattle.counting.proofs.Laws.{row-known, equation-known}
 use Rattle.counting.proofs.equation_count.Statement.{statement}

@@ -5,7 +5,7 @@ use native.Mathlib.Nat.{mul-le-mul}
 use native.Mathlib.Omega.{arith}
 use borrow.Author.Needs.{needs}
 use Rattle.model.specs.Sheet.{sheetOf}
-use Rattle.model.specs.Count.{fieldCount}
+use Rattle.formula.specs.Count.{fieldCount}
 use Rattle.counting.proofs.Laws.{field-none, field-some}
 use Rattle.counting.proofs.field_count.Statement.{statement}
 use Rattle.counting.proofs.field_count.Tie as tie

@@ -4,7 +4,7 @@ use Prim.Native.Nat.{_<_}
 use native.Mathlib.Omega.{arith}
 use borrow.Author.Needs.{needs}
 use Rattle.model.specs.Sheet.{sheetOf}
-use Rattle.model.specs.Count.{parts, partCounts}
+use Rattle.formula.specs.Count.{parts, partCounts}
 use Rattle.shape.specs.Name.{sectionOf}
 use Rattle.counting.proofs.part_count.Statement.{statement}
 use Rattle.counting.proofs.part_count.Tie as tie

@@ -5,7 +5,7 @@ use Prim.Native.Nat.{ℕ, suc, _+_, _-_, _*_, _≤_}
 use native.Mathlib.Omega.{arith}
 use lib.ListN.{getD}
 use Rattle.model.specs.Lists.{total}
-use Rattle.model.specs.Count.{locationCount}
+use Rattle.formula.specs.Count.{locationCount}
 use Rattle.shape.specs.Bytes.{sideOf}
 use Rattle.model.proofs.Keeping.{total-more, total-none}
 use Rattle.counting.proofs.row_count.Statement.{statement}

@@ -4,7 +4,7 @@ use Prim.Native.Nat.{_-_, _*_, _≤_}
 use native.Mathlib.Omega.{arith}
 use Rattle.model.specs.Lists.{total}
 use Rattle.model.specs.Sheet.{sheetOf}
-use Rattle.model.specs.Count.{parts, partCounts}
+use Rattle.formula.specs.Count.{parts, partCounts}
 use Rattle.model.proofs.Keeping.{total-more}
 use Rattle.shape.specs.Name.{sectionOf}
 use Rattle.counting.proofs.section_count.Statement.{statement}

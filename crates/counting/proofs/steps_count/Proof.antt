@@ -5,7 +5,7 @@ use native.Mathlib.Omega.{arith}
 use lib.ListN.{length}
 use Rattle.model.specs.Lists.{total}
 use Rattle.model.specs.Sheet.{sheetOf}
-use Rattle.model.specs.Count.{stepCount}
+use Rattle.formula.specs.Count.{stepCount}
 use Rattle.model.proofs.Keeping.{total-more, total-none}
 use Rattle.counting.proofs.steps_count.Statement.{statement}
 use Rattle.counting.proofs.steps_count.Tie as tie

@@ -5,7 +5,7 @@ use native.Mathlib.Omega.{arith}
 use lib.IntN.{natAbs, _-ℤ_}
 use Rattle.model.specs.Sheet.{sheetOf, constraint}
 use Rattle.model.specs.Range.{Signed16}
-use Rattle.model.specs.Count.{atMost, within}
+use Rattle.formula.specs.Count.{atMost, within}
 use Rattle.counting.proofs.Limits.{most-fits, least-fits, difference-fits, difference-natural, none-within, some-within, all-within, limit-in, least-few, within-known}
 use Rattle.counting.proofs.within.Statement.{statement}
 use Rattle.counting.proofs.within.Tie as tie

@@ -9,11 +9,11 @@ use borrow.Author.Tests.{not-true, not-false}
 use Rattle.model.specs.Sheet.{sheetOf}
 use Rattle.model.specs.Word as word
 use Rattle.model.specs.Filling.{encodeFilling}
-use Rattle.model.specs.Assignment.{truth}
-use Rattle.model.specs.Assignment as assignment
-use Rattle.model.specs.Reply.{allSingle, noneAfterBlank}
-use Rattle.model.proofs.Decoded.{decoding-place, decoding-blank, decoding-fails, decoding-hands, spelled-sized}
-use Rattle.model.proofs.Operations.{keeps-all, hands-values}
+use Rattle.formula.specs.Assignment.{truth}
+use Rattle.formula.specs.Assignment as assignment
+use Rattle.calls.specs.Reply.{allSingle, noneAfterBlank}
+use Rattle.calls.proofs.Decoded.{decoding-place, decoding-blank, decoding-fails, decoding-hands, spelled-sized}
+use Rattle.calls.proofs.Operations.{keeps-all, hands-values}
 use Rattle.fields.specs.Memory.{textsOf}
 use Rattle.decoding.proofs.hand_over.Statement.{statement}
 use Rattle.decoding.proofs.hand_over.Tie as tie

@@ -7,10 +7,10 @@ use lib.ListN.{length}
 use borrow.Author.Needs.{needs}
 use Rattle.model.specs.Sheet.{sheetOf}
 use Rattle.model.specs.Range.{Admitted}
-use Rattle.model.specs.Calls.{HandsOver}
-use Rattle.model.proofs.Numbering.{variable-count}
-use Rattle.model.proofs.Operations.{keeps-all}
-use Rattle.model.proofs.Replying.{replying-sheet, replying-room, replying-long, replying-text}
+use Rattle.calls.specs.Calls.{HandsOver}
+use Rattle.formula.proofs.Numbering.{variable-count}
+use Rattle.calls.proofs.Operations.{keeps-all}
+use Rattle.calls.proofs.Replying.{replying-sheet, replying-room, replying-long, replying-text}
 use Rattle.sheet.specs.Answer.{numberOf, answer, admitted}
 use Rattle.decoding.specs.Answer.{replied}
 use Rattle.decoding.proofs.Laws.{clear-length, clear-front}

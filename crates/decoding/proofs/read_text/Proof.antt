@@ -3,8 +3,8 @@ use mathlib.Core.Path.{sym, subst, _∙_}
 use lib.ListN.{length}
 use borrow.Author.Needs.{needs}
 use Rattle.model.specs.Sheet.{sheetOf}
-use Rattle.model.specs.Calls.{HandsOver}
-use Rattle.model.proofs.Operations.{keeps-all}
+use Rattle.calls.specs.Calls.{HandsOver}
+use Rattle.calls.proofs.Operations.{keeps-all}
 use Rattle.listing.specs.declared.Listing.the-variants.{Listed}
 use Rattle.listing.specs.Answer.{numberOf, Form}
 use Rattle.decoding.specs.Answer.{replied}

@@ -13,11 +13,11 @@ use Rattle.dimacs.proofs.clause_line.Tie as tie
 -- what is still to be written: both pieces, and the second
 module _ (c : tie.Start) where
   abbrev Still : List ℕ → List (List ℕ) → List ℕ → ℕ → Type 0
-  Still = Writing (c .args .buf .now) 0 (codesLine (c .args .codes .now))
+  Still = Writing (c .args .buf .now) (c .args .at) (codesLine (c .args .codes .now))
 
-  both : Still (each (c .args .codes .now) codeBytes) ((48 ∷ 10 ∷ []) ∷ []) (c .args .buf .now) 0
+  both : Still (each (c .args .codes .now) codeBytes) ((48 ∷ 10 ∷ []) ∷ []) (c .args .buf .now) (c .args .at)
   unfolding codesLine joined
-  both = begin (c .args .buf .now) 0 _ _ _ refl (omega (arith, c .pre))
+  both = begin (c .args .buf .now) (c .args .at) _ _ _ refl (omega (arith, c .pre))
 
 second : (c : tie.After-put-literals)
     → Still (c .before .before .before .before) (48 ∷ 10 ∷ []) [] (c .put-literals .last .0) (c .put-literals .result)

@@ -2,7 +2,7 @@
 use mathlib.Core.List.{List, [], _∷_}
 use Prim.Native.Nat.{ℕ, _/_}
 use borrow.Author.Needs.{needs}
-use Rattle.model.specs.Dimacs.{decimal}
+use Rattle.formula.specs.Dimacs.{decimal}
 use Rattle.dimacs.specs.Codes.{codeBytes}
 use Rattle.dimacs.proofs.Laws.{Writing, fits, next, ends, no-literal, even-literal, odd-literal}
 use Rattle.dimacs.proofs.put_literal.Statement.{statement}

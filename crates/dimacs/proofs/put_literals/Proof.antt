@@ -13,14 +13,14 @@ use Rattle.dimacs.proofs.put_literals.Statement.{statement}
 use Rattle.dimacs.proofs.put_literals.Tie as tie
 
 abbrev Inv-loop : tie.InvT-loop
-Inv-loop buf₀ codes at₀ i₀ buf at i = (i ≤ length codes) × Written buf₀ 0 (each (take i codes) codeBytes) buf at
+Inv-loop buf₀ at codes past₀ i₀ buf past i = (i ≤ length codes) × Written buf₀ at (each (take i codes) codeBytes) buf past
 
 abbrev μ-loop : tie.MeasureT-loop
-μ-loop buf₀ codes at₀ i₀ buf at i = length codes - i
+μ-loop buf₀ at codes past₀ i₀ buf past i = length codes - i
 
 loop-holds : tie.Need-loop-holds Inv-loop μ-loop
 unfolding each
-loop-holds c = (omega arith, nothing (c .before .before .args .buf .now) 0)
+loop-holds c = (omega arith, nothing (c .before .before .args .buf .now) (c .before .before .args .at))
 
 mul-put-literal : tie.Need-mul-put-literal Inv-loop μ-loop
 mul-put-literal c = omega arith
@@ -54,7 +54,7 @@ loop-again c =
     let q = codeBytes (getD codes (l .i) 0) in
     let next = more q (put .last .0) (put .result) (l .inv .1) (put .ensures) (put .kept .0) (omega (arith, at-start .pre)) in
     let e = each-next codeBytes codes (l .i) 0 test in
-    (omega arith, subst (λ p. Written (at-start .args .buf .now) 0 p (put .last .0) (put .result)) (sym e) next)
+    (omega arith, subst (λ p. Written (at-start .args .buf .now) (at-start .args .at) p (put .last .0) (put .result)) (sym e) next)
 
 same-length : tie.Need-same-length Inv-loop μ-loop
 same-length c = c .before .loop .inv .1 .long
@@ -64,7 +64,7 @@ returns c =
     let a = c .before .before .before .before .args in
     let l = c .before .loop in
     let e : take (l .i) (a .codes .now) ≡ a .codes .now = take-all (l .i) (a .codes .now) (omega arith) in
-    let w = subst (λ xs. Written (a .buf .now) 0 (each xs codeBytes) (l .buf) (l .at)) e (l .inv .1) in
+    let w = subst (λ xs. Written (a .buf .now) (a .at) (each xs codeBytes) (l .buf) (l .past)) e (l .inv .1) in
     (w .past, w .holds)
 
 pub put-literals-spec : {M : Type 1} → statement M

@@ -5,8 +5,8 @@ use native.Mathlib.Omega.{arith}
 use lib.ListN.{length}
 use borrow.Author.Needs.{needs}
 use Rattle.model.specs.Sheet.{sheetOf}
-use Rattle.model.specs.Clause.{ids}
-use Rattle.model.proofs.Numbering.{variable-count}
+use Rattle.formula.specs.Clause.{ids}
+use Rattle.formula.proofs.Numbering.{variable-count}
 use Rattle.encoding.proofs.clause_counts.Statement.{statement}
 use Rattle.encoding.proofs.clause_counts.Tie as tie
 

@@ -1,8 +1,8 @@
 -- `encoding::count` meets its contract: the sheet's refusal, or its counts. Assumes nothing.
 use mathlib.Core.Path.{sym, ap, subst, _∙_}
 use borrow.Author.Needs.{needs}
-use Rattle.model.specs.Calls.{finished}
-use Rattle.model.proofs.Operations.{counting-sheet, counting-counts}
+use Rattle.calls.specs.Calls.{finished}
+use Rattle.calls.proofs.Operations.{counting-sheet, counting-counts}
 use Rattle.sheet.specs.Answer.{numberOf, answer, admitted}
 use Rattle.encoding.proofs.count.Statement.{statement}
 use Rattle.encoding.proofs.count.Tie as tie

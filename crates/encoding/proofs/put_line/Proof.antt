@@ -6,12 +6,12 @@ use lib.ListN.{length}
 use borrow.Author.Needs.{needs}
 use Rattle.model.specs.Lists.{Puts}
 use Rattle.model.specs.Sheet.{sheetOf}
-use Rattle.model.specs.Count.{IdIn}
-use Rattle.model.specs.Dimacs.{problemLine, line}
-use Rattle.model.proofs.Lines.{line-short}
+use Rattle.formula.specs.Count.{IdIn}
+use Rattle.formula.specs.Dimacs.{problemLine, line}
+use Rattle.formula.proofs.Lines.{line-short, first-line}
 use Rattle.dimacs.specs.Codes.{codesLine}
 use Rattle.literals.specs.Name.{nine}
-use Rattle.encoding.proofs.Laws.{first-line, first-fits, later-line, id-in}
+use Rattle.encoding.proofs.Laws.{first-fits, later-line, id-in}
 use Rattle.encoding.proofs.put_line.Statement.{statement}
 use Rattle.encoding.proofs.put_line.Tie as tie
 

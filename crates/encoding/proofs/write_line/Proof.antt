@@ -7,9 +7,9 @@ use borrow.Author.Needs.{needs}
 use Rattle.model.specs.Sheet.{sheetOf}
 use Rattle.model.specs.Lists.{Puts}
 use Rattle.model.specs.Range.{Admitted}
-use Rattle.model.specs.Dimacs as dimacs
-use Rattle.model.specs.Calls.{finished}
-use Rattle.model.proofs.Operations.{writing-sheet, writing-above, writing-room, writing-line, leaves-all, leaves-text}
+use Rattle.formula.specs.Dimacs as dimacs
+use Rattle.calls.specs.Calls.{finished}
+use Rattle.calls.proofs.Operations.{writing-sheet, writing-above, writing-room, writing-line, leaves-all, leaves-text}
 use Rattle.model.proofs.Seams.{front-is, front-fits, front-length, placed-front}
 use Rattle.sheet.specs.Answer.{numberOf, answer, admitted}
 use Rattle.encoding.proofs.write_line.Statement.{statement}

@@ -1,6 +1,6 @@
 -- `engine::tpl_check` meets its contract: what checking answers, handed over. Assumes nothing.
 use mathlib.Core.Path.{_≡_, sym, ap, _∙_}
-use Rattle.model.specs.Calls.{refused, checking}
+use Rattle.calls.specs.Calls.{refused, checking}
 use Rattle.substitution.specs.Answer.{numberOf, checked}
 use Rattle.engine.specs.Returned.{returnedNumber}
 use Rattle.engine.proofs.Negated.{minus-told}

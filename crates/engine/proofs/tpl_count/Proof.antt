@@ -1,6 +1,6 @@
 -- `engine::tpl_count` meets its contract: what counting answers, handed over. Assumes nothing.
 use mathlib.Core.Path.{_≡_, refl, sym, ap, _∙_}
-use Rattle.model.specs.Calls.{counting, refused, finished}
+use Rattle.calls.specs.Calls.{counting, refused, finished}
 use Rattle.sheet.specs.Answer.{numberOf}
 use Rattle.encoding.specs.Answer.{threeCounts, counted}
 use Rattle.engine.proofs.Negated.{minus-stored}

@@ -6,10 +6,10 @@ use native.Mathlib.Omega.{arith}
 use lib.ListN.{length}
 use mir.Syntax.{w64}
 use mir.ValLaws.{toZ-pos}
-use Rattle.model.specs.Calls.{refused, finished, writing, sized}
-use Rattle.model.proofs.Lines.{writing-short}
-use Rattle.model.proofs.Operations.{sized-finished}
-use Rattle.sheet.proofs.Known.{lent-bytes}
+use Rattle.calls.specs.Calls.{refused, finished, writing, sized}
+use Rattle.calls.proofs.Sizes.{writing-short}
+use Rattle.calls.proofs.Operations.{sized-finished}
+use Rattle.parts.proofs.Known.{lent-bytes}
 use Rattle.encoding.specs.Answer.{numberOf, lined}
 use Rattle.engine.specs.Returned.{returnedNumber}
 use Rattle.engine.proofs.Negated.{minus-told}

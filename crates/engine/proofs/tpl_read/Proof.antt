@@ -1,7 +1,8 @@
 -- `engine::tpl_read` meets its contract: what reading answers, handed over. Assumes nothing.
 use mathlib.Core.Path.{_≡_, refl, sym, ap, _∙_}
-use Rattle.model.specs.Calls.{reading, refused, finished, fourCounts}
-use Rattle.sheet.specs.Answer.{numberOf, countsOf, answer}
+use Rattle.calls.specs.Calls.{reading, refused, finished, fourCounts}
+use Rattle.parts.specs.Counts.{countsOf}
+use Rattle.sheet.specs.Answer.{numberOf, answer}
 use Rattle.engine.proofs.Negated.{minus-stored}
 use borrow.Author.Needs.{needs}
 use Rattle.engine.proofs.tpl_read.Statement.{statement}

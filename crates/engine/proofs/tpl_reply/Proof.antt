@@ -2,7 +2,7 @@
 use mathlib.Core.Path.{_≡_, sym, ap, _∙_}
 use mathlib.Core.List.{[]}
 use lib.ListN.{length}
-use Rattle.model.specs.Calls.{refused, finished, unnumbered, replying}
+use Rattle.calls.specs.Calls.{refused, finished, unnumbered, replying}
 use Rattle.decoding.specs.Answer.{numberOf, replied}
 use Rattle.engine.specs.Returned.{returned}
 use Rattle.engine.proofs.Negated.{minus-told}

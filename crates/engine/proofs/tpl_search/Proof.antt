@@ -1,7 +1,7 @@
 -- `engine::tpl_search` meets its contract: what searching answers, handed over. Assumes nothing.
 use mathlib.Core.Path.{_≡_, sym, ap, subst}
 use lib.IntN.{ℤ}
-use Rattle.model.specs.Calls.{Answer, Searches}
+use Rattle.calls.specs.Calls.{Answer, Searches}
 use Rattle.automaton.specs.Answer.{numberOf, searched}
 use Rattle.engine.specs.Returned.{Sought}
 use Rattle.engine.proofs.Negated.{minus-told}

@@ -6,10 +6,10 @@ use native.Mathlib.Omega.{arith}
 use lib.ListN.{length}
 use mir.Syntax.{w64}
 use mir.ValLaws.{toZ-pos}
-use Rattle.model.specs.Calls.{refused, finished, spelling, sized}
-use Rattle.model.proofs.Passed.{spelling-short}
-use Rattle.model.proofs.Operations.{sized-finished}
-use Rattle.sheet.proofs.Known.{lent-bytes}
+use Rattle.calls.specs.Calls.{refused, finished, spelling, sized}
+use Rattle.calls.proofs.Passed.{spelling-short}
+use Rattle.calls.proofs.Operations.{sized-finished}
+use Rattle.parts.proofs.Known.{lent-bytes}
 use Rattle.substitution.specs.Answer.{numberOf, spelled}
 use Rattle.engine.specs.Returned.{returnedNumber}
 use Rattle.engine.proofs.Negated.{minus-told}

@@ -5,7 +5,7 @@ use lib.ListN.{length}
 use borrow.Author.Needs.{needs}
 use Rattle.model.specs.Sheet.{Counts, got, sheetOf}
 use Rattle.model.specs.Filling.{filling}
-use Rattle.sheet.proofs.Known.{lent-bytes}
+use Rattle.parts.proofs.Known.{lent-bytes}
 use Rattle.fields.specs.Memory.{meaning, Held}
 use Rattle.fields.proofs.Laws.{can-load, loaded-held}
 use Rattle.fields.proofs.load.Statement.{statement}

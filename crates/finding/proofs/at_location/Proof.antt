@@ -4,8 +4,8 @@ use Prim.Native.Nat.{ℕ, _-_, _<_}
 use native.Mathlib.Omega.{arith}
 use lib.ListN.{getD}
 use borrow.Author.Needs.{needs}
-use Rattle.model.specs.Clause.{ClauseId, Left, Match, none}
-use Rattle.model.specs.Count.{Side, used, atLetter, atField, SideIn, standing, locationCount}
+use Rattle.formula.specs.Clause.{ClauseId, Left, Match, none}
+use Rattle.formula.specs.Count.{Side, used, atLetter, atField, SideIn, standing, locationCount}
 use Rattle.shape.specs.Bytes.{sideOf}
 use Rattle.counting.proofs.Laws.{says-used, says-letter, says-field}
 use Rattle.finding.proofs.Laws.{right-field, found, found-at, left-first, letters-differ, letter-before, letter-after, letter-any}

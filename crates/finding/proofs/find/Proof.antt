@@ -2,7 +2,7 @@
 use Prim.Native.Nat.{_+_, _-_}
 use native.Mathlib.Omega.{arith}
 use Rattle.model.specs.Sheet.{sheetOf}
-use Rattle.model.specs.Count.{ofEquations, ofConstraints, sectionStart}
+use Rattle.formula.specs.Count.{ofEquations, ofConstraints, sectionStart}
 use Rattle.counting.proofs.Laws.{clauses-known}
 use Rattle.finding.proofs.Laws.{same-number}
 use Rattle.finding.proofs.find.Statement.{statement}

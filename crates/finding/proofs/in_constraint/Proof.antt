@@ -4,8 +4,8 @@ use Prim.Native.Nat.{_+_, _-_, _<_, _≤_}
 use native.Mathlib.Omega.{arith}
 use Rattle.model.specs.Lists.{total}
 use Rattle.model.specs.Sheet.{sheetOf}
-use Rattle.model.specs.Count.{stepCount}
-use Rattle.model.proofs.Small.{fields-few}
+use Rattle.formula.specs.Count.{stepCount}
+use Rattle.formula.proofs.Small.{fields-few}
 use Rattle.finding.proofs.Laws.{at-first, at-next, zero-found, sum-below, add-found, bound-below, bound-small, bound-found}
 use Rattle.finding.proofs.in_constraint.Statement.{statement}
 use Rattle.finding.proofs.in_constraint.Tie as tie

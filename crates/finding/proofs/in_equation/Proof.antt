@@ -5,9 +5,9 @@ use native.Mathlib.Omega.{arith}
 use lib.ListN.{length, getD}
 use Rattle.model.specs.Lists.{total}
 use Rattle.model.specs.Sheet.{sheetOf}
-use Rattle.model.specs.Clause.{leftCells}
-use Rattle.model.specs.Count.{rowCount, equationStart}
-use Rattle.model.proofs.Small.{letters-few}
+use Rattle.formula.specs.Clause.{leftCells}
+use Rattle.formula.specs.Count.{rowCount, equationStart}
+use Rattle.formula.proofs.Small.{letters-few}
 use Rattle.counting.proofs.Laws.{row-known, equation-known}
 use Rattle.finding.proofs.Laws.{at-first, at-next, never-past, same-number, start-found}
 use Rattle.finding.proofs.in_equation.Statement.{statement}

@@ -4,7 +4,7 @@ use Prim.Native.Nat.{_+_, _-_, _%_, _≤_}
 use native.Mathlib.Omega.{arith}
 use Rattle.model.specs.Lists.{total}
 use Rattle.model.specs.Sheet.{sheetOf}
-use Rattle.model.proofs.Small.{letters-few}
+use Rattle.formula.proofs.Small.{letters-few}
 use Rattle.finding.proofs.Laws.{at-first, at-next, some-found, not-both-found, tail-found}
 use Rattle.finding.proofs.in_field.Statement.{statement}
 use Rattle.finding.proofs.in_field.Tie as tie

@@ -5,8 +5,8 @@ use native.Mathlib.Omega.{arith}
 use borrow.Author.Needs.{needs}
 use Rattle.model.specs.Lists.{total}
 use Rattle.model.specs.Sheet.{sheetOf}
-use Rattle.model.specs.Clause.{idAt}
-use Rattle.model.specs.Count.{ofFields, ofEquations, ofConstraints, parts, partCounts, sectionStart, fieldCount, equationStart, constraintStart}
+use Rattle.formula.specs.Clause.{idAt}
+use Rattle.formula.specs.Count.{ofFields, ofEquations, ofConstraints, parts, partCounts, sectionStart, fieldCount, equationStart, constraintStart}
 use Rattle.shape.specs.Name.{sectionOf}
 use Rattle.finding.proofs.Laws.{same-number}
 use Rattle.finding.proofs.in_part.Statement.{statement}

@@ -5,9 +5,9 @@ use native.Mathlib.Omega.{arith}
 use lib.ListN.{length}
 use Rattle.model.specs.Lists.{total}
 use Rattle.model.specs.Sheet.{sheetOf}
-use Rattle.model.specs.Clause.{rightCells}
-use Rattle.model.specs.Count.{locationSize}
-use Rattle.model.proofs.Small.{letters-few}
+use Rattle.formula.specs.Clause.{rightCells}
+use Rattle.formula.specs.Count.{locationSize}
+use Rattle.formula.proofs.Small.{letters-few}
 use Rattle.finding.proofs.Laws.{at-first, at-next, never-past, location-known, sides-known, location-found}
 use Rattle.finding.proofs.in_row.Statement.{statement}
 use Rattle.finding.proofs.in_row.Tie as tie

@@ -4,7 +4,7 @@ use Prim.Native.Nat.{_+_, _-_, _<_, _≤_}
 use native.Mathlib.Omega.{arith}
 use Rattle.model.specs.Lists.{total}
 use Rattle.model.specs.Sheet.{sheetOf}
-use Rattle.model.specs.Count.{parts, partCounts, sectionStart}
+use Rattle.formula.specs.Count.{parts, partCounts, sectionStart}
 use Rattle.shape.specs.Name.{sectionOf}
 use Rattle.finding.proofs.Laws.{at-first, at-next, never-past, same-number}
 use Rattle.finding.proofs.in_section.Statement.{statement}

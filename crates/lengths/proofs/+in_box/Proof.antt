@@ -26,9 +26,9 @@ use Rattle.scan.proofs.wide.Reads as wide-reads
 use Rattle.lengths.proofs.+in_box.{statement}
 use Rattle.lengths.proofs.+in_box.Tie.{close}
 
--- the arguments from the fifth on: lo, hi, t, k
+-- the arguments from the fifth on: lo, hi, t, u, k
 abbrev μ-in-box : Measures 3 in-box-kinds.ps ℕ
-μ-in-box κs a = let k = a .1 .1 .1 .1 .1 .1 .1 .0 in (6 - k) * 1024 + (256 - getD (a .1 .1 .1 .1 .0) k 0)
+μ-in-box κs a = let k = a .1 .1 .1 .1 .1 .1 .1 .1 .0 in (6 - k) * 1024 + (256 - getD (a .1 .1 .1 .1 .0) k 0)
 
 abbrev in-box-at : ℕ → In 3 in-box-kinds.ps
 in-box-at t = and 3 in-box-kinds.ps (is 3 in-box-kinds.ps μ-in-box t) in-box.Pre
@@ -55,7 +55,7 @@ claims t = (
 )
 
 module _ (t : ℕ) where
-  -- the start; the place where it is known whether the box has vectors of its total; the one where it has, and is not hopeless; the one where
+  -- the start; the place where it is known whether the box has vectors of such totals; the one where it has, and is not hopeless; the one where
   -- it is parted; and the one where field k can still be longer
   abbrev Start : Type 0
   Start = in-box-lts.Start (claims t) (in-box-at t) in-box.Post
@@ -127,7 +127,7 @@ in-box-returns t c =
     let s = start t at-fits in
     let a = s .args in
     let outside = sym (at-fits .fits2 .ensures) ∙ not-true _ (c .before .if1 .taken) in
-    nothing (try t s) (Box (a .t5) (a .t6) (a .t)) Before (c .none .result) (c .none .ensures) (λ m d. absurd (no-total (a .t5) (a .t6) (a .t) outside m d))
+    nothing (try t s) (Box (a .t5) (a .t6) (a .t) (a .u)) Before (c .none .result) (c .none .ensures) (λ m d. absurd (no-total (a .t5) (a .t6) (a .t) (a .u) outside m d))
 
 in-box-hopeless-requires : (t : ℕ) → in-box-lts.Need-hopeless-requires (claims t) (in-box-at t) in-box.Post
 in-box-hopeless-requires t c κs = start t (c .before) .pre .1 .2
@@ -141,7 +141,7 @@ in-box-returns-2 t c =
     let s = start t (at-hopeless .before .before) in
     let a = s .args in
     let lost = sym (at-hopeless .hopeless .ensures) ∙ c .before .if2 .taken in
-    nothing (try t s) (Box (a .t5) (a .t6) (a .t)) Before (c .none2 .result) (c .none2 .ensures) (λ m d. hopeless-fails (equations (a .x .now) (a .w .now)) (a .rows .now) (a .count) (a .t5) (a .t6) lost m (d .0))
+    nothing (try t s) (Box (a .t5) (a .t6) (a .t) (a .u)) Before (c .none2 .result) (c .none2 .ensures) (λ m d. hopeless-fails (equations (a .x .now) (a .w .now)) (a .rows .now) (a .count) (a .t5) (a .t6) lost m (d .0))
 
 in-box-attempt-requires : (t : ℕ) → in-box-lts.Need-attempt-requires (claims t) (in-box-at t) in-box.Post
 in-box-attempt-requires t c κs = let pre = start t (fitted t (c .before)) .pre .1 in (pre .0, pre .1)
@@ -155,7 +155,7 @@ in-box-returns-3 t c =
     let settled : Settled (a .t5) (a .t6) 6 = (λ f k. s .pre .1 .5 f (let e = c .before .if3 .taken in omega arith)) in
     let fits = sym (fitted t h .fits2 .ensures) ∙ not-false _ (h .before .before .if1 .left) in
     let hope = sym (h .before .hopeless .ensures) ∙ h .if2 .left in
-    leaf (try t s) (try-same es (a .rows .now) (a .count)) (a .t5) (a .t6) (a .t) settled (one-total (a .t5) (a .t6) (a .t) fits settled) (c .attempt .result)
+    leaf (try t s) (try-same es (a .rows .now) (a .count)) (a .t5) (a .t6) (a .t) (a .u) settled (one-total (a .t5) (a .t6) (a .t) (a .u) fits settled) (c .attempt .result)
     (c .attempt .ensures ∙ hopeful-tries es (a .rows .now) (a .count) (a .t5) (a .t6) hope settled)
 
 in-box-six-requires : (t : ℕ) → in-box-lts.Need-six-requires (claims t) (in-box-at t) in-box.Post
@@ -179,14 +179,14 @@ in-box-in-box-requires t c κs =
     let a = s .args in
     let p = parting t c in
     let pre = s .pre .1 in
-    (omega (arith, s, p), (pre .0, pre .1, pre .2, least-ranges (try t s) p (a .t), omega (arith, p), least-settled (try t s) p (a .t)))
+    (omega (arith, s, p), (pre .0, pre .1, pre .2, least-ranges (try t s) p (a .t) (a .u), omega (arith, p), least-settled (try t s) p (a .t) (a .u)))
 
 in-box-returns-4 : (t : ℕ) → in-box-lts.Need-returns-4 (claims t) (in-box-at t) in-box.Post
 in-box-returns-4 t c =
     let parted = c .before .before in
     let s = whole t parted in
     let a = s .args in
-    least-hits (try t s) (parting t parted) (a .t) (c .before .in-box .result) (c .if4 .taken) (c .before .in-box .ensures)
+    least-hits (try t s) (parting t parted) (a .t) (a .u) (c .before .in-box .result) (c .if4 .taken) (c .before .in-box .ensures)
 
 in-box-array-read-wide : (t : ℕ) → in-box-lts.Need-array-read-wide (claims t) (in-box-at t) in-box.Post
 in-box-array-read-wide t c = omega (arith, parting t (c .before .before))
@@ -209,7 +209,7 @@ in-box-returns-5 t c =
     let a = s .args in
     let least = c .before .before .wide .ensures in
     let most = c .before .wide2 .ensures in
-    least-misses (try t s) (parting t parted) (a .t) (called .in-box .result) (at-if4 .if4 .left) (omega (arith, c .if5)) (called .in-box .ensures)
+    least-misses (try t s) (parting t parted) (a .t) (a .u) (called .in-box .result) (at-if4 .if4 .left) (omega (arith, c .if5)) (called .in-box .ensures)
 
 in-box-array-read-others : (t : ℕ) → in-box-lts.Need-array-read-others (claims t) (in-box-at t) in-box.Post
 in-box-array-read-others t c = omega (arith, parting t (parted t c))
@@ -227,8 +227,8 @@ in-box-in-box-requires-2 t c κs =
     let p = parting t (parted t c) in
     let pre = s .pre .1 in
     let below = more-left t c in
-    let at = others-at (try t s) p (a .t) in
-    (omega (arith, s, p), (pre .0, pre .1, pre .2, others-ranges (try t s) p (a .t) (λ e. omega arith), omega (arith, p), others-settled (try t s) p (a .t)))
+    let at = others-at (try t s) p (a .t) (a .u) in
+    (omega (arith, s, p), (pre .0, pre .1, pre .2, others-ranges (try t s) p (a .t) (a .u) (λ e. omega arith), omega (arith, p), others-settled (try t s) p (a .t) (a .u)))
 
 in-box-returns-6 : (t : ℕ) → in-box-lts.Need-returns-6 (claims t) (in-box-at t) in-box.Post
 in-box-returns-6 t c =
@@ -236,7 +236,7 @@ in-box-returns-6 t c =
     let called = at-if4 .before in
     let s = whole t (called .before) in
     let a = s .args in
-    others-decide (try t s) (parting t (called .before)) (a .t) (called .in-box .result) (c .in-box2 .result) (at-if4 .if4 .left) (called .in-box .ensures) (c .in-box2 .ensures)
+    others-decide (try t s) (parting t (called .before)) (a .t) (a .u) (called .in-box .result) (c .in-box2 .result) (at-if4 .if4 .left) (called .in-box .ensures) (c .in-box2 .ensures)
 
 pub +in-box-spec : {M : Type 1} → statement M
 +in-box-spec = close μ-in-box λ t. in-box-lts.spec (claims t)

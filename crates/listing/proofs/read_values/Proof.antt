@@ -6,7 +6,7 @@ use Prim.Native.Nat.{_+_, _-_}
 use native.Mathlib.Omega.{arith}
 use borrow.Author.Needs.{needs}
 use lib.ListN.{length, take, drop}
-use Rattle.listing.specs.Answer.{Said}
+use Rattle.numerals.specs.Said.{Said}
 use Rattle.listing.proofs.Pieces.{Noted, noted-none, noted-all, noted-unknown, noted-plus, noted-minus, piece-at}
 use Rattle.listing.proofs.read_values.Statement.{statement}
 use Rattle.listing.proofs.read_values.Tie as tie

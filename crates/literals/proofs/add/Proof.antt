@@ -6,10 +6,10 @@ use lib.IntN.{pos, _+ℤ_, _*ℤ_}
 use mir.Syntax.{w16}
 use mir.Val.{toZ, ofZ}
 use Rattle.model.specs.Sheet.{sheetOf, constraint, coefficient}
-use Rattle.model.specs.Clause.{T, terms}
-use Rattle.model.specs.Numbering.{SumIn, number}
-use Rattle.model.proofs.Small.{fields-few}
-use Rattle.model.proofs.Integers.{sum-next}
+use Rattle.formula.specs.Clause.{T, terms}
+use Rattle.formula.specs.Numbering.{SumIn, number}
+use Rattle.formula.proofs.Small.{fields-few}
+use Rattle.formula.proofs.Integers.{sum-next}
 use Rattle.numbering.proofs.Laws.{sum-back}
 use Rattle.literals.specs.Name.{nine}
 use Rattle.literals.proofs.Laws.{same-nine}

@@ -3,9 +3,9 @@ use mathlib.Core.Path.{_≡_, refl, ap, _∙_}
 use Prim.Native.Nat.{suc, _+_}
 use native.Mathlib.Omega.{arith}
 use Rattle.model.specs.Sheet.{sheetOf}
-use Rattle.model.specs.Clause.{K, terms, blank}
-use Rattle.model.specs.Numbering.{number}
-use Rattle.model.proofs.Small.{limit-small}
+use Rattle.formula.specs.Clause.{K, terms, blank}
+use Rattle.formula.specs.Numbering.{number}
+use Rattle.formula.proofs.Small.{limit-small}
 use Rattle.literals.specs.Name.{nine}
 use Rattle.literals.proofs.Laws.{same-nine, place-code}
 use Rattle.literals.proofs.blank_tail.Statement.{statement}

@@ -6,8 +6,8 @@ use lib.ListN.{length}
 use mir.Syntax.{w16}
 use mir.Val.{toZ, ofZ}
 use Rattle.model.specs.Sheet.{sheetOf}
-use Rattle.model.specs.Clause.{T, terms}
-use Rattle.model.specs.Numbering.{number}
+use Rattle.formula.specs.Clause.{T, terms}
+use Rattle.formula.specs.Numbering.{number}
 use Rattle.numbering.proofs.Laws.{sum-back}
 use Rattle.literals.specs.Name.{nine}
 use Rattle.literals.proofs.Laws.{same-nine}

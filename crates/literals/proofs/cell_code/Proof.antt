@@ -6,8 +6,8 @@ use native.Mathlib.Omega.{arith}
 use lib.ListN.{getD}
 use borrow.Author.Needs.{needs}
 use Rattle.model.specs.Sheet.{sheetOf}
-use Rattle.model.specs.Clause.{K}
-use Rattle.model.specs.Numbering.{number}
+use Rattle.formula.specs.Clause.{K}
+use Rattle.formula.specs.Numbering.{number}
 use Rattle.literals.proofs.Laws.{low-code, used-code, place-code}
 use Rattle.literals.proofs.cell_code.Statement.{statement}
 use Rattle.literals.proofs.cell_code.Tie as tie

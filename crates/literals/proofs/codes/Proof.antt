@@ -2,8 +2,8 @@
 use mathlib.Core.Path.{sym, ap, subst, _∙_}
 use borrow.Author.Needs.{needs}
 use Rattle.model.specs.Sheet.{sheetOf}
-use Rattle.model.specs.Clause as model
-use Rattle.model.specs.Count.{IdIn}
+use Rattle.formula.specs.Clause as model
+use Rattle.formula.specs.Count.{IdIn}
 use native.Mathlib.Omega.{arith}
 use lib.ListN.{length}
 use Rattle.numbering.proofs.Laws.{sum-back}

@@ -2,7 +2,7 @@
 use mathlib.Core.Path.{refl, _∙_}
 use native.Mathlib.Omega.{arith}
 use Rattle.model.specs.Sheet.{sheetOf}
-use Rattle.model.specs.Clause.{terms, leftCells, rightCells}
+use Rattle.formula.specs.Clause.{terms, leftCells, rightCells}
 use Rattle.literals.specs.Name.{nine}
 use Rattle.literals.proofs.Laws.{same-nine, blank-code, if-blank-code, location-few}
 use Rattle.literals.proofs.end.Statement.{statement}

@@ -3,8 +3,8 @@ use mathlib.Core.Path.{ap}
 use native.Mathlib.Omega.{arith}
 use borrow.Author.Tests.{lt-ltb, le-ltb}
 use Rattle.model.specs.Sheet.{sheetOf, limit}
-use Rattle.model.specs.Clause.{K}
-use Rattle.model.specs.Numbering.{number}
+use Rattle.formula.specs.Clause.{K}
+use Rattle.formula.specs.Numbering.{number}
 use Rattle.literals.proofs.Laws.{place-code}
 use Rattle.literals.proofs.longer.Statement.{statement}
 use Rattle.literals.proofs.longer.Tie as tie

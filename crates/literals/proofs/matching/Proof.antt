@@ -2,7 +2,7 @@
 use mathlib.Core.Path.{_∙_}
 use native.Mathlib.Omega.{arith}
 use Rattle.model.specs.Sheet.{sheetOf}
-use Rattle.model.specs.Clause.{terms, leftCells, rightCells}
+use Rattle.formula.specs.Clause.{terms, leftCells, rightCells}
 use Rattle.literals.specs.Name.{nine}
 use Rattle.literals.proofs.Laws.{same-nine, holds-code, lacks-code, blank-code, location-few}
 use Rattle.literals.proofs.matching.Statement.{statement}

@@ -4,8 +4,8 @@ use Prim.Native.Nat.{_-_}
 use native.Mathlib.Omega.{arith}
 use borrow.Author.Tests.{lt-ltb}
 use Rattle.model.specs.Sheet.{sheetOf}
-use Rattle.model.specs.Clause.{K}
-use Rattle.model.specs.Numbering.{number}
+use Rattle.formula.specs.Clause.{K}
+use Rattle.formula.specs.Numbering.{number}
 use Rattle.literals.proofs.Laws.{place-code}
 use Rattle.literals.proofs.shorter.Statement.{statement}
 use Rattle.literals.proofs.shorter.Tie as tie

@@ -6,8 +6,8 @@ use native.Mathlib.Omega.{arith}
 use lib.ListN.{drop, replicate, length-map}
 use Rattle.model.specs.Lists.{upTo, from}
 use Rattle.model.specs.Sheet.{sheetOf}
-use Rattle.model.specs.Clause.{blank}
-use Rattle.model.proofs.Small.{letters-few}
+use Rattle.formula.specs.Clause.{blank}
+use Rattle.formula.proofs.Small.{letters-few}
 use Rattle.model.proofs.Keeping.{map-next, length-from}
 use Rattle.model.proofs.Seams.{store-next}
 use Rattle.literals.proofs.Laws.{some-nine}

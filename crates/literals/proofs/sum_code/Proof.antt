@@ -4,8 +4,8 @@ use Prim.Native.Nat.{_+_, _*_}
 use native.Mathlib.Omega.{arith}
 use borrow.Author.Needs.{needs}
 use Rattle.model.specs.Sheet.{sheetOf}
-use Rattle.model.specs.Clause.{T}
-use Rattle.model.specs.Numbering.{number}
+use Rattle.formula.specs.Clause.{T}
+use Rattle.formula.specs.Numbering.{number}
 use Rattle.numbering.proofs.Laws.{sum-back}
 use Rattle.literals.proofs.sum_code.Statement.{statement}
 use Rattle.literals.proofs.sum_code.Tie as tie

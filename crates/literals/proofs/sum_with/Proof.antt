@@ -6,8 +6,8 @@ use lib.IntN.{pos, natAbs, _+ℤ_, _*ℤ_}
 use mir.Syntax.{w8, w16}
 use mir.Val.{toZ, ofZ}
 use Rattle.model.specs.Sheet.{sheetOf, constraint, coefficient}
-use Rattle.model.proofs.Small.{limit-small, coefficient-few}
-use Rattle.model.proofs.Integers.{sum-next}
+use Rattle.formula.proofs.Small.{limit-small, coefficient-few}
+use Rattle.formula.proofs.Integers.{sum-next}
 use Rattle.scan.proofs.Machine.{small-fits, small-back}
 use Rattle.scan.proofs.Terms.{wide-fits, product-fits, product-back}
 use Rattle.numbering.proofs.Laws.{sum-fits, sum-back}

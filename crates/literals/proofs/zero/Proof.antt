@@ -2,8 +2,8 @@
 use mathlib.Core.Path.{refl}
 use native.Mathlib.Omega.{arith}
 use Rattle.model.specs.Sheet.{sheetOf, constraint}
-use Rattle.model.specs.Clause.{terms}
-use Rattle.model.proofs.Integers.{sum-zero}
+use Rattle.formula.specs.Clause.{terms}
+use Rattle.formula.proofs.Integers.{sum-zero}
 use Rattle.literals.specs.Name.{nine}
 use Rattle.literals.proofs.Laws.{same-nine}
 use Rattle.literals.proofs.zero.Statement.{statement}

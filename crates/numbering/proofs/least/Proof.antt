@@ -6,9 +6,9 @@ use lib.IntN.{ℤ, natAbs, _+ℤ_}
 use mir.Syntax.{w8, w16}
 use mir.Val.{toZ, ofZ}
 use Rattle.model.specs.Sheet.{sheetOf, constraint, coefficient, limit}
-use Rattle.model.specs.Clause.{least, lowest}
-use Rattle.model.proofs.Integers.{least-more}
-use Rattle.model.proofs.Small.{fields-few, coefficient-few, least-small, lowest-small, limit-small}
+use Rattle.formula.specs.Clause.{least, lowest}
+use Rattle.formula.proofs.Integers.{least-more}
+use Rattle.formula.proofs.Small.{fields-few, coefficient-few, least-small, lowest-small, limit-small}
 use Rattle.scan.proofs.Machine.{small-fits, small-back}
 use Rattle.numbering.proofs.least.Statement.{statement}
 use Rattle.numbering.proofs.least.Tie as tie

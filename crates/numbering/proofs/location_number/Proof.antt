@@ -5,10 +5,10 @@ use native.Mathlib.Nat.{mul-le-mul}
 use native.Mathlib.Omega.{arith}
 use lib.ListN.{length}
 use Rattle.model.specs.Sheet.{sheetOf}
-use Rattle.model.specs.Clause.{S, rightCells}
-use Rattle.model.specs.Numbering.{number}
-use Rattle.model.proofs.Numbering.{number-small}
-use Rattle.model.proofs.Small.{cells-small, variables-small}
+use Rattle.formula.specs.Clause.{S, rightCells}
+use Rattle.formula.specs.Numbering.{number}
+use Rattle.formula.proofs.Numbering.{number-small}
+use Rattle.formula.proofs.Small.{cells-small, variables-small}
 use Rattle.numbering.proofs.location_number.Statement.{statement}
 use Rattle.numbering.proofs.location_number.Tie as tie
 

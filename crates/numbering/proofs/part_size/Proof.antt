@@ -7,10 +7,10 @@ use lib.ListN.{length}
 use borrow.Author.Needs.{needs}
 use Rattle.model.specs.Lists.{total}
 use Rattle.model.specs.Sheet.{sheetOf, limit}
-use Rattle.model.specs.Clause.{blank, leftCells, rightCells}
-use Rattle.model.specs.Numbering.{rowSize}
-use Rattle.model.specs.Count.{parts, variableCounts}
-use Rattle.model.proofs.Small.{letters-few, fields-few}
+use Rattle.formula.specs.Clause.{blank, leftCells, rightCells}
+use Rattle.formula.specs.Numbering.{rowSize}
+use Rattle.formula.specs.Count.{parts, variableCounts}
+use Rattle.formula.proofs.Small.{letters-few, fields-few}
 use Rattle.shape.specs.Name.{sectionOf}
 use Rattle.numbering.proofs.part_size.Statement.{statement}
 use Rattle.numbering.proofs.part_size.Tie as tie

@@ -4,9 +4,9 @@ use Prim.Native.Nat.{_+_, _-_, _≤_}
 use native.Mathlib.Omega.{arith}
 use Rattle.model.specs.Lists.{total}
 use Rattle.model.specs.Sheet.{sheetOf}
-use Rattle.model.specs.Count.{parts, variableCounts}
+use Rattle.formula.specs.Count.{parts, variableCounts}
 use Rattle.model.proofs.Keeping.{total-more}
-use Rattle.model.proofs.Small.{parts-few, variables-part}
+use Rattle.formula.proofs.Small.{parts-few, variables-part}
 use Rattle.shape.specs.Name.{sectionOf}
 use Rattle.numbering.proofs.parts_before.Statement.{statement}
 use Rattle.numbering.proofs.parts_before.Tie as tie

@@ -4,10 +4,10 @@ use Prim.Native.Nat.{suc, _+_, _*_, _≤_}
 use native.Mathlib.Nat.{mul-le-mul}
 use native.Mathlib.Omega.{arith}
 use Rattle.model.specs.Sheet.{sheetOf}
-use Rattle.model.specs.Clause.{K, blank}
-use Rattle.model.specs.Numbering.{number}
-use Rattle.model.proofs.Numbering.{number-small}
-use Rattle.model.proofs.Small.{letters-few, limit-small, variables-small}
+use Rattle.formula.specs.Clause.{K, blank}
+use Rattle.formula.specs.Numbering.{number}
+use Rattle.formula.proofs.Numbering.{number-small}
+use Rattle.formula.proofs.Small.{letters-few, limit-small, variables-small}
 use Rattle.numbering.proofs.place_number.Statement.{statement}
 use Rattle.numbering.proofs.place_number.Tie as tie
 

@@ -6,9 +6,9 @@ use native.Mathlib.Omega.{arith}
 use lib.IntN.{natAbs}
 use mir.Syntax.{w8}
 use Rattle.model.specs.Sheet.{sheetOf, constraint, coefficient, limit}
-use Rattle.model.specs.Clause.{spread}
-use Rattle.model.proofs.Integers.{spread-more}
-use Rattle.model.proofs.Small.{fields-few, coefficient-few, spread-small, limit-small}
+use Rattle.formula.specs.Clause.{spread}
+use Rattle.formula.proofs.Integers.{spread-more}
+use Rattle.formula.proofs.Small.{fields-few, coefficient-few, spread-small, limit-small}
 use Rattle.scan.proofs.Machine.{small-back}
 use Rattle.numbering.proofs.spread.Statement.{statement}
 use Rattle.numbering.proofs.spread.Tie as tie

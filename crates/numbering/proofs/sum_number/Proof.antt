@@ -6,10 +6,10 @@ use lib.IntN.{natAbs, _-ℤ_}
 use mir.Syntax.{w16}
 use mir.Val.{toZ, ofZ}
 use Rattle.model.specs.Sheet.{sheetOf}
-use Rattle.model.specs.Clause.{T}
-use Rattle.model.specs.Numbering.{number}
-use Rattle.model.proofs.Numbering.{number-small}
-use Rattle.model.proofs.Small.{variables-small}
+use Rattle.formula.specs.Clause.{T}
+use Rattle.formula.specs.Numbering.{number}
+use Rattle.formula.proofs.Numbering.{number-small}
+use Rattle.formula.proofs.Small.{variables-small}
 use Rattle.numbering.proofs.Laws.{offset-fits, offset-cast, offset-is}
 use Rattle.numbering.proofs.sum_number.Statement.{statement}
 use Rattle.numbering.proofs.sum_number.Tie as tie

@@ -4,10 +4,10 @@ use Prim.Native.Nat.{_+_, _-_, _≤_}
 use native.Mathlib.Omega.{arith}
 use Rattle.model.specs.Lists.{total}
 use Rattle.model.specs.Sheet.{sheetOf}
-use Rattle.model.specs.Clause.{spread}
-use Rattle.model.specs.Numbering.{rowSize}
+use Rattle.formula.specs.Clause.{spread}
+use Rattle.formula.specs.Numbering.{rowSize}
 use Rattle.model.proofs.Keeping.{total-more}
-use Rattle.model.proofs.Small.{fields-few, rows-part}
+use Rattle.formula.proofs.Small.{fields-few, rows-part}
 use Rattle.numbering.proofs.sums_before.Statement.{statement}
 use Rattle.numbering.proofs.sums_before.Tie as tie
 

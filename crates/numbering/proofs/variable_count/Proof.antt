@@ -1,8 +1,8 @@
 -- `numbering::variable_count` meets its contract. Assumes nothing.
 use native.Mathlib.Omega.{arith}
 use Rattle.model.specs.Sheet.{sheetOf}
-use Rattle.model.specs.Numbering.{variableCount}
-use Rattle.model.proofs.Small.{variables-small}
+use Rattle.formula.specs.Numbering.{variableCount}
+use Rattle.formula.proofs.Small.{variables-small}
 use Rattle.numbering.proofs.variable_count.Statement.{statement}
 use Rattle.numbering.proofs.variable_count.Tie as tie
 

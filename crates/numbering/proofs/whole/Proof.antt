@@ -3,7 +3,7 @@ use mathlib.Core.Path.{ap, _∙_}
 use native.Mathlib.Omega.{arith}
 use Rattle.model.specs.Lists.{total}
 use Rattle.model.specs.Sheet.{sheetOf}
-use Rattle.model.specs.Count.{parts, variableCounts}
+use Rattle.formula.specs.Count.{parts, variableCounts}
 use Rattle.shape.specs.Name.{sectionOf}
 use Rattle.numbering.proofs.whole.Statement.{statement}
 use Rattle.numbering.proofs.whole.Tie as tie

@@ -6,7 +6,7 @@ use Prim.Native.Nat.{ℕ, _-_, _<_, _≤_}
 use native.Mathlib.Omega.{arith}
 use borrow.Author.Tests.{not-true, not-false}
 use Rattle.model.specs.Sheet.{sheetOf}
-use Rattle.model.specs.Assignment.{truth}
+use Rattle.formula.specs.Assignment.{truth}
 use Rattle.model.proofs.Keeping.{all-below, all-not}
 use Rattle.places.specs.declared.Test.{Test}
 use Rattle.places.specs.Test.{fieldPasses}

@@ -7,8 +7,8 @@ use Prim.Native.Nat.{ℕ, _+_, _-_, _≤_}
 use native.Mathlib.Omega.{arith}
 use Rattle.model.specs.Lists.{upTo}
 use Rattle.model.specs.Sheet.{sheetOf}
-use Rattle.model.specs.Assignment.{truth, held}
-use Rattle.model.specs.Reply.{blanksLast}
+use Rattle.formula.specs.Assignment.{truth, held}
+use Rattle.calls.specs.Reply.{blanksLast}
 use Rattle.places.proofs.Laws.{ahead, ahead-all, ahead-over, ahead-blank, ahead-letter, ahead-fails}
 use Rattle.places.proofs.blanks_last.Statement.{statement}
 use Rattle.places.proofs.blanks_last.Tie as tie

@@ -2,7 +2,7 @@
 use mathlib.Core.Path.{sym, ap, _∙_}
 use borrow.Author.Needs.{needs}
 use Rattle.model.specs.Sheet.{sheetOf}
-use Rattle.model.specs.Assignment.{truth}
+use Rattle.formula.specs.Assignment.{truth}
 use Rattle.places.specs.Test.{fieldPasses}
 use Rattle.places.proofs.field_passes.Statement.{statement}
 use Rattle.places.proofs.field_passes.Tie as tie

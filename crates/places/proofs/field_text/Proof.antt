@@ -7,8 +7,8 @@ use lib.ListN.{drop}
 use borrow.Author.Count.{below-more}
 use Rattle.model.specs.Lists.{from, upTo}
 use Rattle.model.specs.Sheet.{sheetOf}
-use Rattle.model.specs.Assignment.{truth, held}
-use Rattle.model.proofs.Small.{letters-few}
+use Rattle.formula.specs.Assignment.{truth, held}
+use Rattle.formula.proofs.Small.{letters-few}
 use Rattle.model.proofs.Keeping.{length-map-from}
 use Rattle.places.proofs.Laws.{text-whole, text-stop, field-holds, store-more}
 use Rattle.places.proofs.field_text.Statement.{statement}

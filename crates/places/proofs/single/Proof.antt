@@ -9,7 +9,7 @@ use lib.ListN.{length}
 use borrow.Author.Count.{below-more}
 use borrow.Author.Tests.{eq-eqb, ne-eqb}
 use Rattle.model.specs.Sheet.{sheetOf}
-use Rattle.model.specs.Assignment.{truth, trueValues}
+use Rattle.formula.specs.Assignment.{truth, trueValues}
 use Rattle.model.proofs.Keeping.{all-below, all-not}
 use Rattle.places.proofs.single.Statement.{statement}
 use Rattle.places.proofs.single.Tie as tie

@@ -2,8 +2,8 @@
 use Prim.Native.Nat.{_-_, _<_, _≤_}
 use native.Mathlib.Omega.{arith}
 use Rattle.model.specs.Sheet.{sheetOf}
-use Rattle.model.specs.Assignment.{truth}
-use Rattle.model.proofs.Small.{fields-few}
+use Rattle.formula.specs.Assignment.{truth}
+use Rattle.formula.proofs.Small.{fields-few}
 use Rattle.places.proofs.Laws.{Filled, filled-start, filled-more, textAt, filled-held}
 use Rattle.places.proofs.spelled.Statement.{statement}
 use Rattle.places.proofs.spelled.Tie as tie

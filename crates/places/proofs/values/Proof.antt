@@ -2,7 +2,7 @@
 use Prim.Native.Nat.{_-_}
 use native.Mathlib.Omega.{arith}
 use Rattle.model.specs.Sheet.{sheetOf}
-use Rattle.model.proofs.Small.{letters-few}
+use Rattle.formula.proofs.Small.{letters-few}
 use Rattle.places.proofs.Laws.{isTrue, in-marks, is-true, is-false, Counted, counted-start, counted-yes, counted-no, counted-all}
 use Rattle.places.proofs.values.Statement.{statement}
 use Rattle.places.proofs.values.Tie as tie

@@ -10,12 +10,12 @@ use Rattle.model.specs.Lists.{Puts, Bytes}
 use Rattle.model.specs.Sheet.{sheetOf}
 use Rattle.model.specs.Range.{Admitted}
 use Rattle.model.specs.Filling.{filling, substitutionIn}
-use Rattle.model.specs.Calls.{refused, finished, replying}
-use Rattle.model.specs.Report.{refusedLine, report, printed}
+use Rattle.calls.specs.Calls.{refused, finished, replying}
+use Rattle.calls.specs.Report.{refusedLine, report, printed}
 use Rattle.model.proofs.Known.{accepted-in-range}
-use Rattle.model.proofs.Replying.{replying-answered}
-use Rattle.model.proofs.Untrusted.{Taken, taken, accepted-clashes, refused-is}
-use Rattle.sheet.proofs.Known.{lent-bytes}
+use Rattle.calls.proofs.Replying.{replying-answered}
+use Rattle.calls.proofs.Untrusted.{Taken, taken, accepted-clashes, refused-is}
+use Rattle.parts.proofs.Known.{lent-bytes}
 use Rattle.decoding.specs.Answer.{numberOf, replied}
 use Rattle.reply.proofs.answer.Statement.{statement}
 use Rattle.reply.proofs.answer.Tie as tie

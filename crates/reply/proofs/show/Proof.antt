@@ -4,8 +4,8 @@ use Prim.Native.Nat.{ℕ}
 use lib.ListN.{replicate}
 use borrow.Author.Needs.{needs}
 use Rattle.model.specs.Sheet.{sheetOf}
-use Rattle.model.specs.Calls.{replying}
-use Rattle.model.specs.Report.{printed}
+use Rattle.calls.specs.Calls.{replying}
+use Rattle.calls.specs.Report.{printed}
 use Rattle.model.proofs.Seams.{front-fits, front-length}
 use Rattle.reply.proofs.show.Statement.{statement}
 use Rattle.reply.proofs.show.Tie as tie

@@ -9,11 +9,11 @@ use borrow.Author.Needs.{needs}
 use Rattle.model.specs.Lists.{each, upTo, All, Puts}
 use Rattle.model.specs.Sheet.{Counts, sheetOf, letterOf}
 use Rattle.model.specs.Word.{text, letterBytes}
-use Rattle.model.specs.Report.{line, fieldName, fieldLine}
+use Rattle.calls.specs.Report.{line, fieldName, fieldLine}
 use Rattle.model.proofs.Seams.{Written}
 use Rattle.fields.specs.declared.Field.{Field}
 use Rattle.fields.specs.Memory.{textOf, field, Whole, meaning}
-use Rattle.substitution.proofs.Meaning.{text-at, field-whole}
+use Rattle.judge.proofs.Meaning.{text-at, field-whole}
 use Rattle.report.proofs.Sizes.{line-length, field-size, fields-size, no-lines, next-line}
 use Rattle.report.proofs.field_lines.Statement.{statement}
 use Rattle.report.proofs.field_lines.Tie as tie

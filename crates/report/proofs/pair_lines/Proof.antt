@@ -8,12 +8,12 @@ use borrow.Author.Needs.{needs}
 use Rattle.model.specs.Lists.{each, upTo, All, Puts}
 use Rattle.model.specs.Sheet.{Counts, sheetOf, letterOf, equation, template, symbolOf}
 use Rattle.model.specs.Word.{spell, letterBytes}
-use Rattle.model.specs.Report.{line, pairName, pairLine}
+use Rattle.calls.specs.Report.{line, pairName, pairLine}
 use Rattle.model.proofs.Seams.{Written, front-is, front-fits, front-length}
 use Rattle.model.proofs.Templates.{template-in}
 use Rattle.model.proofs.Words.{spell-over}
 use Rattle.fields.specs.Memory.{textsOf, meaning}
-use Rattle.substitution.proofs.Meaning.{word-is, can-spell}
+use Rattle.judge.proofs.Meaning.{word-is, can-spell}
 use Rattle.report.proofs.Sizes.{line-length, pair-size, pairs-size, no-lines, next-line}
 use Rattle.report.proofs.pair_lines.Statement.{statement}
 use Rattle.report.proofs.pair_lines.Tie as tie

@@ -5,8 +5,8 @@ use Prim.Native.Nat.{ℕ, _≤_}
 use native.Mathlib.Omega.{arith}
 use lib.ListN.{length}
 use borrow.Author.Needs.{needs}
-use Rattle.model.specs.Dimacs.{decimal}
-use Rattle.model.specs.Report.{refusedLine}
+use Rattle.formula.specs.Dimacs.{decimal}
+use Rattle.calls.specs.Report.{refusedLine}
 use Rattle.dimacs.proofs.Laws.{Writing, joined, begin, fits, next, ends}
 use Rattle.report.proofs.Sizes.{refused-short}
 use Rattle.report.proofs.refusal.Statement.{statement}

@@ -8,9 +8,9 @@ use borrow.Author.Needs.{needs}
 use Rattle.model.specs.Lists.{each, upTo}
 use Rattle.model.specs.Sheet.{sheetOf}
 use Rattle.model.specs.Filling.{substitutionIn}
-use Rattle.model.specs.Report.{clashLine, fieldLine, pairLine, report}
+use Rattle.calls.specs.Report.{clashLine, fieldLine, pairLine, report}
 use Rattle.model.proofs.Seams.{Written, nothing, more}
-use Rattle.sheet.proofs.Known.{lent-bytes}
+use Rattle.parts.proofs.Known.{lent-bytes}
 use Rattle.fields.specs.Memory.{meaning}
 use Rattle.report.proofs.Sizes.{fields-size, pairs-size, clash-ready}
 use Rattle.report.proofs.write.Statement.{statement}

@@ -8,11 +8,11 @@ use borrow.Author.Needs.{needs}
 use Rattle.model.specs.Sheet.{sheetOf}
 use Rattle.model.specs.Range.{Admitted}
 use Rattle.model.specs.Filling.{filling, substitutionIn}
-use Rattle.model.specs.Calls.{refused, Clashed}
-use Rattle.model.specs.Report.{refusedLine, apartLine, report}
+use Rattle.calls.specs.Calls.{refused, Clashed}
+use Rattle.calls.specs.Report.{refusedLine, apartLine, report}
 use Rattle.model.proofs.Known.{accepted-in-range}
-use Rattle.model.proofs.Searching.{clash-accepted, clash-taken, prints-refused, prints-apart, prints-clash}
-use Rattle.sheet.proofs.Known.{lent-bytes}
+use Rattle.calls.proofs.Searching.{clash-accepted, clash-taken, prints-refused, prints-apart, prints-clash}
+use Rattle.parts.proofs.Known.{lent-bytes}
 use Rattle.automaton.specs.Answer.{searched}
 use Rattle.search.proofs.answer.Statement.{statement}
 use Rattle.search.proofs.answer.Tie as tie

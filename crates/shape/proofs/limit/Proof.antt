@@ -3,7 +3,7 @@ use mathlib.Core.Path.{_∙_}
 use native.Mathlib.Omega.{arith}
 use borrow.Author.Needs.{needs}
 use Rattle.model.specs.Sheet.{sheetOf}
-use Rattle.model.proofs.Small.{limit-small}
+use Rattle.formula.proofs.Small.{limit-small}
 use Rattle.shape.proofs.limit.Statement.{statement}
 use Rattle.shape.proofs.limit.Tie as tie
 

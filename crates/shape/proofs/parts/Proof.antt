@@ -3,8 +3,8 @@ use mathlib.Core.Path.{sym, ap, _∙_}
 use native.Mathlib.Omega.{arith}
 use borrow.Author.Needs.{needs}
 use Rattle.model.specs.Sheet.{sheetOf}
-use Rattle.model.specs.Count.{parts}
-use Rattle.model.proofs.Small.{fields-few, equations-few, constraints-few}
+use Rattle.formula.specs.Count.{parts}
+use Rattle.formula.proofs.Small.{fields-few, equations-few, constraints-few}
 use Rattle.shape.specs.Name.{sectionOf}
 use Rattle.shape.proofs.parts.Statement.{statement}
 use Rattle.shape.proofs.parts.Tie as tie

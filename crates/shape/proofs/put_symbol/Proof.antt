@@ -5,7 +5,7 @@ use native.Mathlib.Omega.{arith}
 use lib.ListN.{length, length-set}
 use borrow.Author.Needs.{needs}
 use Rattle.model.specs.Sheet.{sheetOf, limit}
-use Rattle.model.proofs.Small.{limit-small}
+use Rattle.formula.proofs.Small.{limit-small}
 use Rattle.model.proofs.Seams.{put-one}
 use Rattle.shape.proofs.Laws.{letter-cells, field-cells, length-cells, field-in}
 use Rattle.shape.proofs.put_symbol.Statement.{statement}

@@ -1,11 +1,11 @@
 -- `sheet::body` meets its contract: the walk's fault, bytes left over, or the counts of the sheet that was got. Assumes nothing.
 use mathlib.Core.Path.{ap, _∙_}
 use lib.ListN.{drop}
-use Rattle.model.specs.Calls.{refused}
+use Rattle.calls.specs.Calls.{refused}
 use Rattle.model.specs.Sheet.{walk}
-use Rattle.scan.proofs.Walks.{at-told, fault-told}
-use Rattle.sheet.specs.Answer.{countsOf}
-use Rattle.model.proofs.Known.{ended-fault, ended-left-over, ended-whole}
+use Rattle.sections.proofs.Walks.{at-told, fault-told}
+use Rattle.parts.specs.Counts.{countsOf}
+use Rattle.calls.proofs.Read.{ended-fault, ended-left-over, ended-whole}
 use borrow.Author.Needs.{needs}
 use Rattle.sheet.proofs.body.Statement.{statement}
 use Rattle.sheet.proofs.body.Tie as tie

@@ -1,11 +1,13 @@
 -- `sheet::read` meets its contract: the header's refusal, or what is read after a header that passes. Assumes nothing.
 use mathlib.Core.Path.{_≡_, sym, ap, _∙_}
 use lib.ListN.{drop}
-use Rattle.model.specs.Calls.{reading}
-use Rattle.model.proofs.Known.{reading-refused, reading-walked}
+use Rattle.calls.specs.Calls.{reading}
+use Rattle.calls.proofs.Read.{reading-refused, reading-walked}
 use Rattle.model.proofs.Opening.{opening-exact}
-use Rattle.sheet.specs.Answer.{countsOf, numberOf, answer, openingOf}
-use Rattle.sheet.proofs.Known.{lent-bytes, admitted-by}
+use Rattle.sheet.specs.Answer.{numberOf, answer, openingOf}
+use Rattle.parts.specs.Counts.{countsOf}
+use Rattle.parts.proofs.Known.{lent-bytes}
+use Rattle.sheet.proofs.Known.{admitted-by}
 use borrow.Author.Needs.{needs}
 use Rattle.sheet.proofs.read.Statement.{statement}
 use Rattle.sheet.proofs.read.Tie as tie

@@ -2,8 +2,8 @@
 use mathlib.Core.Path.{sym, ap, subst, _∙_}
 use borrow.Author.Needs.{needs}
 use Rattle.model.specs.Sheet.{Accepted}
-use Rattle.model.specs.Calls.{checking}
-use Rattle.model.proofs.Operations.{sheet-refused, sheet-accepted}
+use Rattle.calls.specs.Calls.{checking}
+use Rattle.calls.proofs.Operations.{sheet-refused, sheet-accepted}
 use Rattle.sheet.specs.Answer.{numberOf, answer, admitted}
 use Rattle.substitution.proofs.check.Statement.{statement}
 use Rattle.substitution.proofs.check.Tie as tie

@@ -3,7 +3,7 @@ use mathlib.Core.Path.{sym, ap, _∙_}
 use borrow.Author.Needs.{needs}
 use Rattle.model.specs.Sheet.{sheetOf}
 use Rattle.model.specs.Filling.{filling}
-use Rattle.model.proofs.Operations.{filling-refused}
+use Rattle.calls.proofs.Operations.{filling-refused}
 use Rattle.fields.specs.Answer.{admitted, numberOf}
 use Rattle.substitution.proofs.check_filling.Statement.{statement}
 use Rattle.substitution.proofs.check_filling.Tie as tie

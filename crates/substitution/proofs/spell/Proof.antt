@@ -4,7 +4,7 @@ use native.Mathlib.Omega.{arith}
 use lib.ListN.{length}
 use borrow.Author.Needs.{needs}
 use Rattle.model.specs.Sheet.{Counts, Accepted, sheetOf}
-use Rattle.model.proofs.Operations.{spelling-sheet, spelling-equation, spelling-side, spelling-on, leaves-all}
+use Rattle.calls.proofs.Operations.{spelling-sheet, spelling-equation, spelling-side, spelling-on, leaves-all}
 use Rattle.sheet.specs.Answer.{numberOf, answer, admitted}
 use Rattle.substitution.proofs.spell.Statement.{statement}
 use Rattle.substitution.proofs.spell.Tie as tie

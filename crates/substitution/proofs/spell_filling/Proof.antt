@@ -8,14 +8,14 @@ use borrow.Author.Needs.{needs}
 use Rattle.model.specs.Lists.{All, placed}
 use Rattle.model.specs.Sheet.{sheetOf, template, symbolOf, letterOf}
 use Rattle.model.specs.Word.{spell, letterBytes}
-use Rattle.model.specs.Calls.{finished, spelledText}
+use Rattle.calls.specs.Calls.{finished, spelledText}
 use Rattle.model.proofs.Seams.{front-is, front-fits, front-length, placed-front}
 use Rattle.model.proofs.Templates.{template-in}
 use Rattle.model.proofs.Words.{spell-over}
-use Rattle.model.proofs.Operations.{spelling-filling, spelling-room, spelling-text, leaves-all, leaves-text}
+use Rattle.calls.proofs.Operations.{spelling-filling, spelling-room, spelling-text, leaves-all, leaves-text}
 use Rattle.fields.specs.Answer.{admitted, numberOf}
 use Rattle.fields.specs.Memory.{textsOf, meaning}
-use Rattle.substitution.proofs.Meaning.{word-is, can-spell}
+use Rattle.judge.proofs.Meaning.{word-is, can-spell}
 use Rattle.substitution.proofs.spell_filling.Statement.{statement}
 use Rattle.substitution.proofs.spell_filling.Tie as tie
 

@@ -9,7 +9,7 @@ use borrow.Author.Needs.{needs}
 use Rattle.model.specs.Sheet.{Counts, got, rest, Accepted, sheetOf}
 use Rattle.model.specs.Filling.{filling}
 use Rattle.model.proofs.Fillings.{filling-sized}
-use Rattle.sheet.proofs.Known.{lent-bytes}
+use Rattle.parts.proofs.Known.{lent-bytes}
 use Rattle.report.proofs.Sizes.{clash-ready}
 use Rattle.vectors_check.proofs.show_difference.Statement.{statement}
 use Rattle.vectors_check.proofs.show_difference.Tie as tie

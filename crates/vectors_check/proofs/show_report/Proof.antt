@@ -6,7 +6,7 @@ use lib.ListN.{replicate}
 use borrow.Author.Needs.{needs}
 use Rattle.model.specs.Sheet.{sheetOf}
 use Rattle.model.specs.Filling.{filling, substitutionIn}
-use Rattle.model.specs.Report.{report}
+use Rattle.calls.specs.Report.{report}
 use Rattle.model.proofs.Seams.{front-fits, front-length}
 use Rattle.vectors_check.proofs.show_report.Statement.{statement}
 use Rattle.vectors_check.proofs.show_report.Tie as tie

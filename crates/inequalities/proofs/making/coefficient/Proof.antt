@@ -9,7 +9,7 @@ use mir.Syntax.{w8, w16}
 use Rattle.model.specs.Sheet.{sheetOf, constraint}
 use Rattle.model.specs.Range.{ConstraintIn}
 use Rattle.model.proofs.Lists.{at}
-use Rattle.model.proofs.Small.{coefficient-few}
+use Rattle.formula.proofs.Small.{coefficient-few}
 use Rattle.scan.proofs.Machine.{small-back}
 use Rattle.scan.proofs.Terms.{wide-fits}
 use Rattle.inequalities.proofs.making.coefficient.Statement.{statement}

@@ -4,7 +4,7 @@ use Prim.Native.Nat.{_+_, _-_, _≤_}
 use native.Mathlib.Omega.{arith}
 use lib.ListN.{length, drop}
 use Rattle.model.specs.Lists.{span}
-use Rattle.model.proofs.Splitting.{span-here, span-later, span-nowhere}
+use Rattle.model.proofs.Spans.{span-here, span-later, span-nowhere}
 use Rattle.scan.proofs.bytes.find.Statement.{statement}
 use Rattle.scan.proofs.bytes.find.Tie as tie
 

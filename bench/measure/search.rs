@@ -1,0 +1,198 @@
+//! The search program against solvers, each asked whether a sheet clashes: cadical on its clause file,
+//! z3 and cvc5 on its question about strings.
+
+use crate::hard;
+use crate::printed;
+use crate::race::{race, Contender, Ended};
+use crate::reader;
+use crate::strings;
+use crate::table::{table, times, verdict};
+use crate::timing::{milliseconds, Effort, Timing};
+use crate::{fail, progress, save, Setting};
+use std::process::Command;
+
+/// The search may take this long, in milliseconds, where cadical is faster.
+const ALLOWED: f64 = 10.0;
+
+pub const CADICAL: &str = "cadical";
+const SOLVERS: [&str; 3] = [CADICAL, "z3", "cvc5"];
+
+/// A sheet, and whether it is known to clash.
+struct Asked {
+    name: String,
+    sheet: Vec<u8>,
+    clash: Option<bool>,
+}
+
+/// What there is to compare on one sheet.
+pub struct Answered {
+    pub clash: bool,
+    pub search: Timing,
+    /// None where the solver cannot be had.
+    pub solvers: Vec<Option<Timing>>,
+}
+
+/// The table of the hard sheets, and that of other sheets, if there are any.
+pub fn tables(setting: &Setting) -> String {
+    let hard = hard::all().into_iter().map(|hard| Asked {
+        name: hard.name,
+        sheet: hard.sheet,
+        clash: Some(hard.clash),
+    });
+    let mut hard: Vec<Asked> = hard.collect();
+    let mut others: Vec<Asked> = setting.sheets.iter().map(|file| read(file)).collect();
+    if setting.effort.quick {
+        hard.truncate(1);
+        others.truncate(1);
+    }
+    let mut text = "### Search\n\nThe sheets of `tests/hard`:\n\n".to_string();
+    text += &one_table(setting, &hard);
+    if !others.is_empty() {
+        text += "\nThe slowest sheets that climbing found:\n\n";
+        text += &one_table(setting, &others);
+    }
+    text
+}
+
+fn read(file: &str) -> Asked {
+    let name = file.rsplit('/').next().unwrap_or(file);
+    Asked {
+        name: name.strip_suffix(".tpl").unwrap_or(name).to_string(),
+        sheet: std::fs::read(file).unwrap_or_else(|error| fail(&format!("{file}: {error}"))),
+        clash: None,
+    }
+}
+
+fn one_table(setting: &Setting, all: &[Asked]) -> String {
+    let heads = [
+        "sheet",
+        "answer",
+        "search",
+        CADICAL,
+        "at most",
+        "search / at most",
+        "z3",
+        "cvc5",
+    ];
+    let mut rows = Vec::new();
+    let mut ratios = Vec::new();
+    for (number, asked) in all.iter().enumerate() {
+        progress(&format!(
+            "search {} of {}: {}",
+            number + 1,
+            all.len(),
+            asked.name
+        ));
+        let answered = ask(setting.effort, &asked.sheet, &setting.solvers, asked.clash);
+        let answer = if answered.clash { "clash" } else { "apart" };
+        let shown: Vec<String> = answered.solvers.iter().map(told).collect();
+        let (most, ratio) = match &answered.solvers[0] {
+            Some(cadical) => {
+                let most = cadical.milliseconds().max(ALLOWED);
+                let ratio = answered.search.milliseconds() / most;
+                ratios.push(ratio);
+                (milliseconds(most), times(ratio))
+            }
+            None => ("-".to_string(), "-".to_string()),
+        };
+        let search = answered.search.to_string();
+        let cells = [
+            &asked.name,
+            answer,
+            &search,
+            &shown[0],
+            &most,
+            &ratio,
+            &shown[1],
+            &shown[2],
+        ];
+        rows.push(cells.map(str::to_string).to_vec());
+    }
+    table(&heads, &rows) + &verdict(1.0, &ratios)
+}
+
+fn told(timing: &Option<Timing>) -> String {
+    timing
+        .as_ref()
+        .map_or("not installed".to_string(), Timing::to_string)
+}
+
+/// Asks the search program and the solvers of `SOLVERS` that are there. Their answers must agree, and what
+/// the search prints must be right and the same each time.
+pub fn ask(effort: Effort, sheet: &[u8], there: &[String], known: Option<bool>) -> Answered {
+    save("sheet.tpl", sheet);
+    save("sheet.cnf", &clauses());
+    save(
+        "sheet.smt2",
+        strings::question(&reader::accepted(sheet)).as_bytes(),
+    );
+    let solvers = SOLVERS.map(|solver| there.iter().any(|name| name == solver));
+    let mut names = vec!["search"];
+    names.extend(
+        SOLVERS
+            .iter()
+            .zip(solvers)
+            .filter(|(_, there)| *there)
+            .map(|(name, _)| *name),
+    );
+    let contenders: Vec<Contender> = names.iter().map(|name| contender(name, effort)).collect();
+    let mut clash = known;
+    let mut report: Option<Vec<u8>> = None;
+    let timings = race(effort, &contenders, |number, ended| {
+        let name = names[number];
+        if name == "search" && *report.get_or_insert_with(|| ended.printed.clone()) != ended.printed
+        {
+            fail("the search printed one thing and then another");
+        }
+        let answer = answer(name, sheet, ended);
+        if answer.is_some() && *clash.get_or_insert(answer == Some(true)) != (answer == Some(true))
+        {
+            fail(&format!(
+                "{name} answers otherwise than is known, or than the search"
+            ));
+        }
+    });
+    let mut timings = timings.into_iter();
+    let search = timings.next().expect("the search is timed");
+    Answered {
+        clash: clash.unwrap_or_else(|| fail("the search gave no answer in time")),
+        search,
+        solvers: solvers
+            .map(|there| there.then(|| timings.next().expect("it is timed")))
+            .to_vec(),
+    }
+}
+
+/// The clause file of the sheet that was saved.
+fn clauses() -> Vec<u8> {
+    let sheet = std::fs::File::open("target/bench/sheet.tpl").expect("it was saved");
+    let output = Command::new("target/bin/clauses").stdin(sheet).output();
+    output
+        .unwrap_or_else(|error| fail(&format!("the clause program cannot be run: {error}")))
+        .stdout
+}
+
+/// The search program, or a solver, on the sheet that was saved.
+fn contender(name: &str, effort: Effort) -> Contender {
+    match name {
+        "search" => Contender::reading("target/bin/search", "target/bench/sheet.tpl", effort),
+        CADICAL => Contender::given(name, &["-q", "target/bench/sheet.cnf"], effort.limit),
+        _ => Contender::given(name, &["target/bench/sheet.smt2"], effort.strings_limit),
+    }
+}
+
+/// Whether it says that the sheet clashes; none if it does not know.
+fn answer(name: &str, sheet: &[u8], ended: &Ended) -> Option<bool> {
+    let printed = String::from_utf8_lossy(&ended.printed);
+    match (name, ended.status, printed.lines().next()) {
+        ("search", _, _) => match printed::judge(sheet, &ended.printed).as_deref() {
+            Ok("clash") => Some(true),
+            Ok("apart") => Some(false),
+            other => fail(&format!("the search printed what is not right: {other:?}")),
+        },
+        (CADICAL, Some(10), _) | ("z3" | "cvc5", _, Some("sat")) => Some(true),
+        (CADICAL, Some(20), _) | ("z3" | "cvc5", _, Some("unsat")) => Some(false),
+        ("z3" | "cvc5", _, Some("unknown")) => None,
+        _ => fail(&format!("{name} gave no answer: {printed}")),
+    }
+}

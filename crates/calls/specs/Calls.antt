@@ -1,0 +1,165 @@
+-- The answer of every public call on all inputs, refused ones too.
+use mathlib.Core.Path.{_≡_}
+use mathlib.Core.Bool.{Bool, true}
+use mathlib.Core.List.{List, [], _∷_, _++_}
+use Prim.Native.Nat.{ℕ, _*_}
+use lib.Dec.{leb, ltb}
+use lib.ListN.{length, drop}
+use Rattle.model.specs.Lists.{pick, all}
+use Rattle.model.specs.Sheet as sheet
+use Rattle.model.specs.Sheet.{Sheet, Step, got, fault, Counts, countsOf, Reading, read, template}
+use Rattle.model.specs.Word.{Substitution, letterBytes, spell, solves}
+use Rattle.model.specs.Solvable.{solvable}
+use Rattle.model.specs.Filling.{filling, encodeFilling}
+use Rattle.formula.specs.Clause.{ids}
+use Rattle.formula.specs.Numbering.{variables}
+use Rattle.formula.specs.Dimacs.{line, allowance}
+use Rattle.formula.specs.Assignment.{Assignment, spelled}
+use Rattle.calls.specs.Reply.{lines, lineEnded, known, oneStatus, given, closed, inCount, givenOnce, assigned, allSingle, noneAfterBlank}
+
+-- "A refusal returns its number only"; a call that finishes answers its values.
+pub data Answer : Type 0 where
+  refused : ℕ → Answer
+  finished : List ℕ → Answer
+
+-- "Every operation reads the sheet first and gives its refusals before its own."
+abbrev pub ofSheet : Reading → (Sheet → Answer) → Answer
+ofSheet (sheet.accepted s) go = go s
+ofSheet (sheet.refused n) go = refused n
+
+-- a test of the call's own, and the refusal where it fails
+abbrev pub require : Bool → ℕ → Answer → Answer
+require ok n go = pick ok go (refused n)
+
+-- the refusals of a filling, 20 to 23
+abbrev pub ofFilling : Step Substitution → (Substitution → Answer) → Answer
+ofFilling (got g xs) go = go g
+ofFilling (fault n) go = refused n
+
+-- Reading: "The answer is the four counts."
+abbrev pub fourCounts : Counts → List ℕ
+fourCounts c = c .letter-count ∷ c .field-count ∷ c .equation-count ∷ c .constraint-count ∷ []
+
+abbrev pub readingOf : Reading → Answer
+readingOf r = ofSheet r (λ s. finished (fourCounts (countsOf s)))
+
+unfoldable pub reading : List ℕ → Answer
+reading b = readingOf (read b)
+
+-- Checking a filling: "The answer is clash or no clash", 1 or 0.
+abbrev pub verdict : Bool → Answer
+verdict clash = finished (pick clash 1 0 ∷ [])
+
+unfoldable pub checking : List ℕ → List ℕ → Answer
+checking b m = ofSheet (read b) (λ s. ofFilling (filling s m) (λ g. verdict (solves s g)))
+
+-- Spelling: "24 pair number not below E; 25 side not 0 (left) or 1 (right); 20 to 23; 26 buffer shorter than the text." The values are
+-- the text's bytes.
+abbrev pub spelledText : Sheet → ℕ → ℕ → Substitution → List ℕ
+spelledText s p side g = letterBytes s (spell g (template s p side))
+
+unfoldable pub spellingOf : Sheet → ℕ → ℕ → List ℕ → ℕ → Answer
+spellingOf s p side m room =
+    ofFilling (filling s m) (λ g.
+    require (leb (length (spelledText s p side g)) room) 26
+    (finished (spelledText s p side g)))
+
+unfoldable pub spelling : List ℕ → ℕ → ℕ → List ℕ → ℕ → Answer
+spelling b p side m room =
+    ofSheet (read b) (λ s.
+    require (ltb p (length (s .equations))) 24
+    (require (leb side 1) 25
+    (spellingOf s p side m room)))
+
+-- A call that writes its values: "the answer is its length", and in the lent buffer "later bytes are unchanged". Refused, "no lent byte
+-- changes". `Writes` says both of an answer and of a buffer before and after.
+abbrev pub sized : Answer → Answer
+sized (refused n) = refused n
+sized (finished values) = finished (length values ∷ [])
+
+abbrev pub written : Answer → List ℕ → List ℕ
+written (refused n) buffer = buffer
+written (finished values) buffer = values ++ drop (length values) buffer
+
+abbrev pub Writes : Answer → List ℕ → Answer → List ℕ → Type 0
+Writes a before answer after = (answer ≡ sized a) × (after ≡ written a before)
+
+-- Searching: "27 buffer shorter than 9 × V." The answer is clash or apart, 1 or 0; demand 3: "With a long enough buffer the search answers
+-- clash exactly when there is a filling that clashes".
+unfoldable pub searchingOf : Sheet → ℕ → Answer
+searchingOf s room = require (leb (9 * length (s .limits)) room) 27 (verdict (solvable s))
+
+unfoldable pub searching : List ℕ → ℕ → Answer
+searching b room = ofSheet (read b) (λ s. searchingOf s room)
+
+-- "A clash fills the first 9 × V bytes and no more". "Which clash is given is free; that it clashes is not.": some bytes that check as a
+-- clash of the sheet b stand at the front of the buffer, and what follows them is as before.
+pub record Clashed (b before after : List ℕ) : Type 0 where
+  pub bytes : List ℕ
+  pub clashes : checking b bytes ≡ verdict true
+  pub handed : after ≡ bytes ++ drop (length bytes) before
+
+-- What a search of the sheet b does: its answer, and the lent buffer before and after. "apart changes none"; refused, "no lent byte changes".
+pub record Searches (b before : List ℕ) (answer : Answer) (after : List ℕ) : Type 0 where
+  pub answers : answer ≡ searching b (length before)
+  pub clash : answer ≡ verdict true → Clashed b before after
+  pub others : (answer ≡ verdict true → ⊥) → after ≡ before
+
+-- Counting: "no refusal of its own. The answer is the variable count, the clause count C, and the size allowance (C+1) × 80".
+abbrev pub clauseCounts : Sheet → List ℕ
+clauseCounts s = length (variables s) ∷ length (ids s) ∷ allowance s ∷ []
+
+unfoldable pub counting : List ℕ → Answer
+counting b = ofSheet (read b) (λ s. finished (clauseCounts s))
+
+-- Writing line n: "28 n above C; 29 buffer shorter than the line. The answer is the line's length; later bytes are unchanged."
+unfoldable pub writingOf : Sheet → ℕ → ℕ → Answer
+writingOf s n room =
+    require (leb n (length (ids s))) 28
+    (require (leb (length (line s n)) room) 29
+    (finished (line s n)))
+
+unfoldable pub writing : List ℕ → ℕ → ℕ → Answer
+writing b n room = ofSheet (read b) (λ s. writingOf s n room)
+
+-- Reading a reply: "27; 30 ..; then each test over the whole text in number order." 31 to 36 are of the text and the number
+-- of variables, 37 to 39 of the assignment that it lists.
+unfoldable pub formed : ℕ → List ℕ → Answer → Answer
+formed count t go =
+    require (lineEnded t) 31
+    (require (all known (lines t)) 32
+    (require (oneStatus (lines t)) 33
+    (require (closed (given t)) 34
+    (require (inCount count (given t)) 35
+    (require (givenOnce (given t)) 36
+    go)))))
+
+-- "39 the filling does not clash"; the values are the filling's bytes.
+unfoldable pub decoding : Sheet → Assignment → Answer
+decoding s w =
+    require (allSingle s w) 37
+    (require (noneAfterBlank s w) 38
+    (require (solves s (spelled s w)) 39
+    (finished (encodeFilling (spelled s w)))))
+
+-- "30 over 65,536 bytes"
+abbrev pub inSize : List ℕ → Bool
+inSize t = leb (length t) 65536
+
+unfoldable pub replyingOf : Sheet → List ℕ → ℕ → Answer
+replyingOf s t room =
+    require (leb (9 * length (s .limits)) room) 27
+    (require (inSize t) 30
+    (formed (length (variables s)) t
+    (decoding s (assigned t))))
+
+unfoldable pub replying : List ℕ → List ℕ → ℕ → Answer
+replying b t room = ofSheet (read b) (λ s. replyingOf s t room)
+
+-- A call that hands its values over and answers no number: "Accepted, the filling fills the first 9 × V bytes and no more."
+abbrev pub unnumbered : Answer → Answer
+unnumbered (refused n) = refused n
+unnumbered (finished values) = finished []
+
+abbrev pub HandsOver : Answer → List ℕ → Answer → List ℕ → Type 0
+HandsOver a before answer after = (answer ≡ unnumbered a) × (after ≡ written a before)

@@ -1,0 +1,4 @@
+pub mod Reply
+pub mod Calls
+pub mod Report
+pub mod Rules

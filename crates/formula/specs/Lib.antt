@@ -1,0 +1,5 @@
+pub mod Clause
+pub mod Numbering
+pub mod Dimacs
+pub mod Assignment
+pub mod Count

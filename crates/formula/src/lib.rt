@@ -1,0 +1,1 @@
+// The question of a sheet as clauses: definitions (specs/) and theorems (proofs/) alone, no code.

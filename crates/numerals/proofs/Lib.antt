@@ -1,0 +1,3 @@
+pub mod Firsts
+mod Digits
+mod Numbers

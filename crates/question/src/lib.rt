@@ -1,0 +1,46 @@
+// A question to the search, and an answer where there is one: lengths in ranges, and some of a sheet's equations and constraints. Vectors of
+// lengths go from `lengths`, and at each `attempt` walks the equations, as document 000's automaton does under fixed lengths.
+mod sides;
+
+use fields::Lengths;
+use inequalities::Marks;
+use inequalities::ROOM;
+use sides::CELLS;
+use sides::WIDTHS;
+use unification::Found;
+ghost use Rattle.model.specs.Sheet.{sheetOf};
+ghost use Rattle.model.specs.Range.{Admitted};
+ghost use Rattle.question.specs.Ask.{Asking, Finds};
+
+// What is asked: lengths from `lo` to `hi`, and the equations and constraints that are marked.
+pub struct Ask {
+    pub lo: Lengths,
+    pub hi: Lengths,
+    pub equations: Marks,
+    pub constraints: Marks,
+}
+
+// How many cells and how many widths there are.
+pub struct Sizes {
+    pub cells: usize,
+    pub widths: usize,
+}
+
+// A substitution that answers what is asked, where there is one: a shortest one, if that matters.
+pub fn find(sheet: &[u8], ask: Ask, shortest: bool) -> Found
+    requires { ⌜ Admitted (now sheet) × Asking (sheetOf (now sheet)) ask ⌝ }
+    ensures { λ r. ⌜ Finds (now (sheet .entry)) ask r ⌝ }
+{
+    let mut x = [0u8; CELLS];
+    let mut w = [0u8; WIDTHS];
+    let mut rows = [0u16; ROOM];
+    let equations = ask.equations;
+    let constraints = ask.constraints;
+    let sizes = sides::put_equations(&mut x, &mut w, sheet, equations);
+    let count = gathering::gather(sheet, equations, constraints, &mut rows);
+    let cells = sizes.cells;
+    let widths = sizes.widths;
+    let lo = ask.lo;
+    let hi = ask.hi;
+    lengths::first(&x[..cells], &w[..widths], &rows, count, lo, hi, shortest)
+}

@@ -1,0 +1,4 @@
+pub mod Located
+pub mod Rows
+pub mod Summed
+pub mod Whole
