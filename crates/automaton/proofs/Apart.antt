@@ -3,12 +3,11 @@ use mathlib.Core.Path.{_≡_, refl, sym, ap, _∙_}
 use mathlib.Core.List.{List, [], _∷_, _++_, map}
 use Prim.Native.Nat.{ℕ, _+_, _-_, _<_}
 use native.Mathlib.Omega.{arith}
-use lib.Dec.{ltb}
 use lib.ListN.{length, getD, take, length-append, length-map}
 use lib.Seq.{take-all}
 use borrow.Author.Tests.{lt-ltb}
 use Rattle.model.specs.Lists.{pick, each}
-use Rattle.model.specs.Sheet.{Symbol, letter, field, symbolOf}
+use Rattle.model.specs.Sheet.{letter, field, symbolOf}
 use Rattle.model.specs.Word.{Substitution, symbolWord, spell}
 use Rattle.model.proofs.Keeping.{map-at, second-at}
 use Rattle.model.proofs.Words.{spell-more}

@@ -2,23 +2,23 @@
 -- equations whose sides are the same, is a solution. Assumes nothing.
 use mathlib.Core.Path.{_≡_, refl, sym, ap, subst, _∙_}
 use mathlib.Core.Bool.{Bool, true, false}
-use mathlib.Core.List.{List, [], _∷_, _++_, map}
+use mathlib.Core.List.{List, [], _∷_, map}
 use Prim.Native.Nat.{ℕ, zero, suc, _+_, _<_, _≤_}
 use native.Mathlib.Omega.{arith}
-use lib.Dec.{ltb, eqb}
+use lib.Dec.{ltb}
 use lib.ListN.{length, getD, replicate, List·getD-eq-default}
 use borrow.Author.Tests.{ltb-true, ltb-false, lt-ltb, eq-eqb}
-use Rattle.model.specs.Lists.{pick, when, upTo, total, each, All}
-use Rattle.model.specs.Sheet.{Symbol, letter, field, Equation, Constraint, Sheet, limit, equation, constraint, coefficient, sheetOf}
+use Rattle.model.specs.Lists.{pick, upTo, each, All}
+use Rattle.model.specs.Sheet.{Symbol, letter, field, Constraint, Sheet, limit, equation, constraint, coefficient, sheetOf}
 use Rattle.model.specs.Range.{ConstraintIn, Admitted}
-use Rattle.model.specs.Word.{Substitution, text, Legal, Admits, symbolWord, spell, EquationHolds, ConstraintHolds, Solves}
+use Rattle.model.specs.Word.{Substitution, text, Legal, Admits, spell, EquationHolds, ConstraintHolds, Solves}
 use Rattle.model.proofs.Lists.{never, by-test, at, from-at}
-use Rattle.model.proofs.Keeping.{one-out, one-in, when-in, length-map-from, map-from-at, total-fits}
+use Rattle.model.proofs.Keeping.{length-map-from, map-from-at, total-fits}
 use Rattle.formula.proofs.Small.{fields-few}
 use Rattle.model.proofs.Words.{same-word-equal, equal-same-word, constraint-out, constraint-in, keeps-every}
 use Rattle.unification.proofs.Laws.{pick-ind}
-use Rattle.inequalities.specs.Asked.{asked, lengthsOf}
-use Rattle.inequalities.specs.Rows.{Within, slotOf, occurrences, negative}
+use Rattle.inequalities.specs.Asked.{asked}
+use Rattle.inequalities.specs.Rows.{occurrences, negative}
 use Rattle.inequalities.proofs.Asked.{asked-all, lengths-at}
 use Rattle.inequalities.proofs.Shorter.{shorter-holds}
 use Rattle.question.specs.declared.Ask.{Ask}

@@ -8,6 +8,7 @@ use lib.ListN.{length, getD}
 use Rattle.model.specs.Lists.{pick, total}
 use Rattle.model.specs.Sheet.{Symbol, Sheet, limit, equation, constraint, coefficient, sheetOf}
 use Rattle.model.specs.Word.{Substitution, spell, Solves}
+use Rattle.formula.specs.Count.{Section, ofFields, ofEquations, ofConstraints}
 use Rattle.fields.specs.Memory.{meaning, Held}
 use Rattle.unification.specs.declared.Found.{Found}
 use Rattle.inequalities.specs.Rows.{occurrences, negative}
@@ -19,6 +20,12 @@ equationDemand s equations f p = pick (getD equations p false) (occurrences (equ
 
 abbrev pub constraintDemand : Sheet → List Bool → ℕ → ℕ → ℕ
 constraintDemand s constraints f r = pick (getD constraints r false) (negative (coefficient (constraint s r) f)) 0
+
+-- so of part i of a section, where fields ask for nothing
+abbrev pub partDemand : Sheet → Section → List Bool → ℕ → ℕ → ℕ
+partDemand s ofFields marks f i = 0
+partDemand s ofEquations marks f i = equationDemand s marks f i
+partDemand s ofConstraints marks f i = constraintDemand s marks f i
 
 -- what is asked of field f: 0 where the equations do not have it and no constraint is helped by a longer text
 unfoldable pub demandOf : Sheet → List Bool → List Bool → ℕ → ℕ

@@ -1,10 +1,11 @@
 // Which narrower questions are worth a search. Nothing that is proved of the search rests on this choice, so these functions promise nothing of
 // what they return: other answers would only cost time.
 use super::narrowing::constraint_demand;
-use super::narrowing::equations_demand;
+use super::narrowing::section_demand;
 use fields::FIELDS;
 use fields::Lengths;
 use inequalities::Marks;
+use shape::Section;
 ghost use Prim.Native.Nat.{_<_};
 ghost use lib.ListN.{length};
 ghost use Rattle.model.specs.Sheet.{sheetOf};
@@ -20,7 +21,7 @@ fn covered(sheet: &[u8], equations: Marks, r: usize) -> bool
     let fields = shape::fields(sheet);
     let mut f: usize = 0;
     while f < fields {
-        if equations_demand(sheet, equations, f as u8) == 0 {
+        if section_demand(sheet, Section::Equations, equations, f as u8) == 0 {
             if constraint_demand(sheet, [true; 4], f as u8, r) != 0 {
                 return false;
             }

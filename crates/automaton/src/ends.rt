@@ -4,8 +4,7 @@ ghost use mathlib.Core.Path.{_≡_};
 ghost use mathlib.Core.Bool.{true};
 ghost use mathlib.Core.List.{map};
 ghost use Prim.Native.Nat.{_<_};
-ghost use lib.ListN.{length};
-ghost use Rattle.model.specs.Sheet.{symbolOf, sheetOf, equation};
+ghost use Rattle.model.specs.Sheet.{symbolOf, sheetOf};
 ghost use Rattle.model.specs.Range.{Admitted};
 ghost use Rattle.automaton.specs.Narrow.{NeverSame, Unsolvable};
 

@@ -6,13 +6,16 @@ use inequalities::occurrences;
 use inequalities::second_factor;
 use question::Ask;
 use scan::wide;
+use shape::Section;
 ghost use mathlib.Core.Path.{_≡_};
 ghost use Prim.Native.Nat.{ℕ, _<_, _≤_};
 ghost use lib.ListN.{length, getD};
 ghost use Rattle.model.specs.Lists.{total};
 ghost use Rattle.model.specs.Sheet.{sheetOf};
 ghost use Rattle.model.specs.Range.{Admitted};
-ghost use Rattle.automaton.specs.Narrow.{equationDemand, constraintDemand, demandOf, longestOf, Narrow, SameUnlessMarked};
+ghost use Rattle.formula.specs.Count.{parts};
+ghost use Rattle.shape.specs.Name.{sectionOf};
+ghost use Rattle.automaton.specs.Narrow.{equationDemand, constraintDemand, partDemand, longestOf, Narrow, SameUnlessMarked};
 
 // How often equation p has field f, 0 for one that is not asked.
 fn equation_demand(sheet: &[u8], equations: Marks, f: u8, p: usize) -> usize
@@ -38,31 +41,29 @@ pub fn constraint_demand(sheet: &[u8], constraints: Marks, f: u8, r: usize) -> u
     second_factor(sheet, r, wide(f)) as usize
 }
 
-// What the asked equations, and what the asked constraints, ask of field f.
-pub fn equations_demand(sheet: &[u8], equations: Marks, f: u8) -> usize
-    requires { ⌜ Admitted (now sheet) ⌝ }
-    ensures { λ r. ⌜ r ≡ total (length (sheetOf (now (sheet .entry)) .equations)) (equationDemand (sheetOf (now (sheet .entry))) equations f) ⌝ }
+// What part i of a section asks of field f: fields ask for nothing.
+fn part_demand(sheet: &[u8], section: Section, marks: Marks, f: u8, i: usize) -> usize
+    requires { ⌜ Admitted (now sheet) × (i < parts (sheetOf (now sheet)) (sectionOf section)) ⌝ }
+    ensures { λ r. ⌜ (r ≡ partDemand (sheetOf (now (sheet .entry))) (sectionOf section) marks f i) × (r ≤ 131070) ⌝ }
 {
-    let count = shape::equations(sheet);
-    let mut sum: usize = 0;
-    let mut p: usize = 0;
-    while p < count {
-        sum += equation_demand(sheet, equations, f, p);
-        p += 1;
+    match section {
+        Section::Fields => 0,
+        Section::Equations => equation_demand(sheet, marks, f, i),
+        Section::Constraints => constraint_demand(sheet, marks, f, i),
     }
-    sum
 }
 
-fn constraints_demand(sheet: &[u8], constraints: Marks, f: u8) -> usize
+// What the asked parts of a section ask of field f.
+pub fn section_demand(sheet: &[u8], section: Section, marks: Marks, f: u8) -> usize
     requires { ⌜ Admitted (now sheet) ⌝ }
-    ensures { λ r. ⌜ r ≡ total (length (sheetOf (now (sheet .entry)) .constraints)) (constraintDemand (sheetOf (now (sheet .entry))) constraints f) ⌝ }
+    ensures { λ r. ⌜ r ≡ total (parts (sheetOf (now (sheet .entry))) (sectionOf section)) (partDemand (sheetOf (now (sheet .entry))) (sectionOf section) marks f) ⌝ }
 {
-    let count = shape::constraints(sheet);
+    let count = shape::parts(sheet, section);
     let mut sum: usize = 0;
-    let mut r: usize = 0;
-    while r < count {
-        sum += constraint_demand(sheet, constraints, f, r);
-        r += 1;
+    let mut i: usize = 0;
+    while i < count {
+        sum += part_demand(sheet, section, marks, f, i);
+        i += 1;
     }
     sum
 }
@@ -72,8 +73,8 @@ fn longest(sheet: &[u8], equations: Marks, constraints: Marks, f: u8) -> u8
     requires { ⌜ Admitted (now sheet) × (f < length (sheetOf (now sheet) .limits)) ⌝ }
     ensures { λ r. ⌜ r ≡ longestOf (sheetOf (now (sheet .entry))) equations constraints f ⌝ }
 {
-    if equations_demand(sheet, equations, f) == 0
-        && constraints_demand(sheet, constraints, f) == 0
+    if section_demand(sheet, Section::Equations, equations, f) == 0
+        && section_demand(sheet, Section::Constraints, constraints, f) == 0
     {
         return 0;
     }

@@ -1,6 +1,5 @@
 // The lines of a clause file as bytes: numbers in decimal, literals, clauses, and the first line. Each is written into a lent buffer.
 use words::put;
-ghost use mathlib.Core.Path.{_≡_};
 ghost use mathlib.Core.List.{[], _∷_};
 ghost use Prim.Native.Nat.{_+_, _<_, _≤_};
 ghost use lib.ListN.{length};

@@ -37,7 +37,7 @@ pub enum Writing {
 }
 
 // Room for any line, and what the allowance has for each.
-pub const LINE_ROOM: usize = 80;
+const LINE_ROOM: usize = 80;
 
 // Document 01's number of a refusal.
 pub fn number(refusal: Refusal) -> u8
@@ -74,7 +74,7 @@ pub fn count(sheet: &[u8]) -> Counting
 }
 
 // Line n of an accepted sheet's clause file, from the front of the buffer on. Returns its length.
-pub fn put_line(buf: &mut [u8], sheet: &[u8], n: usize) -> usize
+fn put_line(buf: &mut [u8], sheet: &[u8], n: usize) -> usize
     requires { ⌜ Admitted (now sheet) × (n ≤ length (ids (sheetOf (now sheet)))) × (80 ≤ length (now buf)) ⌝ }
     ensures { λ r. ⌜ Puts (now (buf .entry)) 0 (line (sheetOf (now (sheet .entry))) n) (now (buf .exit)) r ⌝ }
 {

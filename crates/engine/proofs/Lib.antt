@@ -1,2 +1,3 @@
 mod Negated
+pub mod Refused
 pub mod Told

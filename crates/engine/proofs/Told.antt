@@ -47,7 +47,7 @@ pub accepted-zero : (b : List ℕ) → Accepted b → returned (reading b) ≡ p
 accepted-zero b h = ap returned (reading-counts b h)
 
 -- `tpl_check`: 1 for a clash, 0 for none, and both for nothing else
-negative : {P : Type 0} {v : ℕ} (n : ℕ) → 1 ≤ n → negℤ (pos n) ≡ pos v → P
+pub negative : {P : Type 0} {v : ℕ} (n : ℕ) → 1 ≤ n → negℤ (pos n) ≡ pos v → P
 negative zero h e = absurd (omega arith)
 negative (suc n) h e = let z : _≡_ {A = ℕ} 0 1 = cc in absurd (omega arith)
 

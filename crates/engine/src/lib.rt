@@ -76,7 +76,7 @@ pub extern "C" fn tpl_count(sheet: &[u8], counts: &mut [u64; 3]) -> i64
     ensures { λ r. ⌜ (r ≡ returned (counting (now (sheet .entry)))) × (now (counts .exit) ≡ lentAfter (counting (now (sheet .entry))) (now (counts .entry))) ⌝ }
 {
     match encoding::count(sheet) {
-        encoding::Counting::Refused(fault) => minus(sheet::number(fault)),
+        encoding::Counting::Refused(refusal) => minus(sheet::number(refusal)),
         encoding::Counting::Counts(found) => {
             let variables = found.variables as u64;
             let clauses = found.clauses as u64;

@@ -30,6 +30,12 @@ pub struct Field {
 
 pub type Substitution = [Field; FIELDS];
 
+// A field without a letter.
+pub const EMPTY: Field = Field {
+    letters: [PAST; PLACES],
+    len: 0,
+};
+
 // The lengths of the fields' texts, alone.
 pub type Lengths = [u8; FIELDS];
 
@@ -82,10 +88,7 @@ fn load_fields(bytes: &[u8], n: usize) -> Substitution
     requires { ⌜ (n ≤ 6) × (9 * n ≤ length (now bytes)) ⌝ }
     ensures { λ r. ⌜ r ≡ loaded n (now (bytes .entry)) ⌝ }
 {
-    let mut g = [Field {
-        letters: [PAST; PLACES],
-        len: 0,
-    }; FIELDS];
+    let mut g = [EMPTY; FIELDS];
     let mut f: usize = 0;
     while f < n {
         let field = load_field(bytes, FIELD_BYTES * f);

@@ -115,29 +115,26 @@ module _ (s : Sheet) (ok : InRange s) (f : ℕ) (hf : f < fields s) (n : ℕ) (h
         (sym (tail-at s (well-formed s ok) f c hf place-in inside)) (omega (arith, place-is, size-is))
 
 -- The clauses of a location, by what its two sides have.
-module _ (l p i j u v n : ℕ) (inside : n < locationCount l (sideOf u) (sideOf v)) where
-  abbrev pub Found : ClauseId → Type 0
-  Found q = q ≡ getD (standing l p i j (sideOf u) (sideOf v)) n none
-
-  -- no clause where both sides are used up
-  pub right-field : sideOf u ≡ used → 8 ≤ v → sideOf v ≡ atField
-  right-field eu h = by-test (eqb v 255)
-      (λ e.
-      let k = subst (λ x. n < locationCount l x (sideOf v)) eu inside in
-      let m : n < 0 = subst (λ y. n < locationCount l used (sideOf y)) (eqb-true v 255 e) k in
-      absurd (omega arith))
-      (λ e. says-field v h (eqb-false v 255 e))
-
-  pub found : (a b : Side) → sideOf u ≡ a → sideOf v ≡ b → (q : ClauseId)
-      → (n < locationCount l a b → q ≡ getD (standing l p i j a b) n none) → Found q
-  found a b eu ev q h =
-      let few = subst (λ y. n < locationCount l a y) ev (subst (λ x. n < locationCount l x (sideOf v)) eu inside) in
-      h few ∙ sym (ap₂ (λ x y. getD (standing l p i j x y) n none) eu ev)
+module _ (l p i j : ℕ) (x y : Side) (n : ℕ) (inside : n < locationCount l x y) where
+  pub found : (a b : Side) → x ≡ a → y ≡ b → (q : ClauseId)
+      → (n < locationCount l a b → q ≡ getD (standing l p i j a b) n none) → q ≡ getD (standing l p i j x y) n none
+  found a b ex ey q h =
+      let few = subst (λ t. n < locationCount l a t) ey (subst (λ t. n < locationCount l t y) ex inside) in
+      h few ∙ sym (ap₂ (λ s t. getD (standing l p i j s t) n none) ex ey)
 
   -- by its number
-  pub found-at : (a b : Side) → sideOf u ≡ a → sideOf v ≡ b → (k : ℕ) → (n < locationCount l a b → n ≡ k)
-      → Found (getD (standing l p i j a b) k none)
-  found-at a b eu ev k h = found a b eu ev _ (λ few. ap (λ m. getD (standing l p i j a b) m none) (sym (h few)))
+  pub found-at : (a b : Side) → x ≡ a → y ≡ b → (k : ℕ) → (n < locationCount l a b → n ≡ k)
+      → getD (standing l p i j a b) k none ≡ getD (standing l p i j x y) n none
+  found-at a b ex ey k h = found a b ex ey _ (λ few. ap (λ m. getD (standing l p i j a b) m none) (sym (h few)))
+
+-- no clause where both sides are used up
+pub right-field : (l u v n : ℕ) → n < locationCount l (sideOf u) (sideOf v) → sideOf u ≡ used → 8 ≤ v → sideOf v ≡ atField
+right-field l u v n inside eu h = by-test (eqb v 255)
+    (λ e.
+    let k = subst (λ x. n < locationCount l x (sideOf v)) eu inside in
+    let m : n < 0 = subst (λ y. n < locationCount l used (sideOf y)) (eqb-true v 255 e) k in
+    absurd (omega arith))
+    (λ e. says-field v h (eqb-false v 255 e))
 
 -- The clauses of a location that are not at a fixed place of the table: with a field's place on the left, B comes first.
 module _ (l p i j n : ℕ) where

@@ -13,7 +13,7 @@ ghost use Rattle.model.specs.Lists.{total};
 ghost use Rattle.model.specs.Sheet.{sheetOf, constraint};
 ghost use Rattle.model.specs.Range.{Admitted};
 ghost use Rattle.formula.specs.Clause.{none, ids, idAt, least, spread, leftCells, rightCells};
-ghost use Rattle.formula.specs.Count.{SideIn, standing, locationCount, fieldCount, rowCount, equationCount, constraintCount, equationStart, constraintStart, parts, partCounts, sectionStart};
+ghost use Rattle.formula.specs.Count.{atField, SideIn, standing, locationCount, fieldCount, rowCount, equationCount, constraintCount, equationStart, constraintStart, parts, partCounts, sectionStart};
 ghost use Rattle.shape.specs.Bytes.{sideBytes, sideOf};
 ghost use Rattle.shape.specs.Name.{sectionOf};
 ghost use Rattle.literals.specs.Name.{nameOf};
@@ -39,6 +39,32 @@ fn in_field(sheet: &[u8], f: usize, n: usize) -> ClauseId
         a += 1;
     }
     ClauseId::BlankTail(f, c)
+}
+
+// Clause n of those of a location with a place of a field on the left and a cell on the right; l is the number of letters.
+fn at_field(l: usize, p: usize, i: usize, j: usize, v: u8, n: usize) -> ClauseId
+    requires { ⌜ (v ≡ 255 → ⊥) × SideIn l (sideOf v) × (n < locationCount l atField (sideOf v)) ⌝ }
+    ensures { λ r. ⌜ nameOf r ≡ getD (standing l p i j atField (sideOf v)) n none ⌝ }
+{
+    if n == 0 {
+        return ClauseId::Left(p, i, j);
+    }
+    if v < FIRST_PLACE {
+        if n == 1 {
+            return ClauseId::Both(p, i, j);
+        }
+        if n - 2 < wide(v) {
+            return ClauseId::Match(p, i, j, n - 2);
+        }
+        return ClauseId::Match(p, i, j, n - 1);
+    }
+    if n == 1 {
+        return ClauseId::Right(p, i, j);
+    }
+    if n == 2 {
+        return ClauseId::Both(p, i, j);
+    }
+    ClauseId::Match(p, i, j, n - 3)
 }
 
 // Clause n of those of a location, by what stands on its two sides; l is the number of letters.
@@ -79,25 +105,7 @@ fn at_location(l: usize, p: usize, i: usize, j: usize, u: u8, v: u8, n: usize) -
         }
         return ClauseId::Match(p, i, j, wide(u));
     }
-    if n == 0 {
-        return ClauseId::Left(p, i, j);
-    }
-    if v < FIRST_PLACE {
-        if n == 1 {
-            return ClauseId::Both(p, i, j);
-        }
-        if n - 2 < wide(v) {
-            return ClauseId::Match(p, i, j, n - 2);
-        }
-        return ClauseId::Match(p, i, j, n - 1);
-    }
-    if n == 1 {
-        return ClauseId::Right(p, i, j);
-    }
-    if n == 2 {
-        return ClauseId::Both(p, i, j);
-    }
-    ClauseId::Match(p, i, j, n - 3)
+    at_field(l, p, i, j, v, n)
 }
 
 // Clause n of those of a row of locations, those with cell i on the left, whose byte is u; `right` has the cells on the right.

@@ -49,7 +49,7 @@ found =
       assignments = (2 ∷ 4 ∷ 5 ∷ 6 ∷ []) ∷ (2 ∷ 3 ∷ 5 ∷ 6 ∷ []) ∷ [];
       substitutions = ([] ∷ [] ∷ []) ∷ ([] ∷ (0 ∷ []) ∷ []) ∷ [];
     }
-    -- a field that a rule asks to be one letter long or more: a sum that is not reached may be true
+    -- a field that a constraint asks to be one letter long or more: a sum that is not reached may be true
     ∷ record {
       sheet = record {
         letters = 65 ∷ [];

@@ -11,7 +11,7 @@ use lib.Dec.{ltb, eqb}
 use lib.ListN.{length, getD}
 use lib.Seq.{ext-getD}
 use borrow.Author.Tests.{ltb-true, ltb-false, eqb-true, eqb-false, eq-eqb}
-use Rattle.model.specs.Lists.{any, from, upTo, All}
+use Rattle.model.specs.Lists.{any, upTo, All}
 use Rattle.model.specs.Sheet.{Sheet, limit}
 use Rattle.model.specs.Word.{Substitution, text, Legal}
 use Rattle.formula.specs.Clause.{K, blank, fields, yes, terms}

@@ -9,8 +9,8 @@ use native.Mathlib.Omega.{arith}
 use lib.IntN.{ℤ, pos, negsuc, negℤ, natAbs}
 use lib.ListN.{length, length-append, length-map}
 use borrow.Author.Tests.{ne-eqb}
-use Rattle.model.specs.Lists.{each, upTo, All, Bytes}
-use Rattle.model.specs.Sheet.{Sheet, sheetOf}
+use Rattle.model.specs.Lists.{each, upTo, All}
+use Rattle.model.specs.Sheet.{Sheet}
 use Rattle.model.specs.Range.{InRange}
 use Rattle.formula.specs.Clause.{Literal, is, isnt, Term, known, unknown, ClauseId, SomeValue, NotBoth, BlankTail, Start, Left, Right, Both, Match, End, Zero, Add, Bound, terms, literalOf, literals, ids, idAt, blank, yes, K, none}
 use Rattle.formula.specs.Numbering.{signedNumber, number, clause, variables, variableCount}

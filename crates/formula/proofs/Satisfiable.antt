@@ -61,6 +61,6 @@ module _ (b : List ℕ) (ok : Accepted b) where
   pub satisfiable : ((w : Assignment) × Satisfies s w) ↔ ((g : Substitution) × Solves s g)
   satisfiable = ((λ a. (spelled s (a .0), sound (a .0) (a .1) .2)), (λ c. (assign s (c .0), complete (c .0) (c .1))))
 
-  -- the same, filling by filling: those that clash are just those that some satisfying assignment spells
+  -- the same, one by one: the solutions are just the substitutions that satisfying assignments spell
   pub solutions-are : (g : Substitution) → Solves s g ↔ ((w : Assignment) × Satisfies s w × (spelled s w ≡ g))
   solutions-are g = ((λ h. (assign s g, complete g h, faithful g (h .is-legal))), (λ a. subst (Solves s) (a .2) (sound (a .0) (a .1) .2)))

@@ -17,6 +17,7 @@ pub data Variable : Type 0 where
   S : ℕ → ℕ → ℕ → Variable
   T : ℕ → ℕ → ℤ → Variable
 
+-- A literal: a variable, or its negation ("not").
 pub data Literal : Type 0 where
   is : Variable → Literal
   isnt : Variable → Literal

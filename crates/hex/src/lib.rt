@@ -1,5 +1,5 @@
 // Text that gives bytes in hexadecimal, as the programs take their vectors: where a part of it ends
-// and the next begins, and which bytes it gives.
+// and the next begins, which bytes it gives, and such a byte as a length.
 ghost use mathlib.Core.Path.{_≡_};
 ghost use Prim.Native.Nat.{_≤_};
 ghost use lib.ListN.{length, take};
@@ -60,4 +60,9 @@ fn digit(x: u8) -> u8 {
         b'A'..=b'F' => x - b'A' + 10,
         _ => NO_DIGIT,
     }
+}
+
+// A byte as what `io::count` takes.
+pub fn signed(x: u8) -> isize {
+    x as isize
 }

@@ -6,7 +6,7 @@ use mathlib.Core.List.{List, [], _∷_, _++_}
 use Prim.Native.Nat.{ℕ, zero, suc, _+_, _-_, _*_, _≤_}
 use native.Mathlib.Omega.{arith}
 use lib.Dec.{leb, eqb}
-use lib.IntN.{ℤ, pos, _+ℤ_, _*ℤ_, zero-*ℤ, +ℤ-idr}
+use lib.IntN.{ℤ, pos, _*ℤ_, zero-*ℤ, +ℤ-idr}
 use lib.ListN.{length, length-append, List·getD-eq-default}
 use lib.Signed.{leZ}
 use borrow.Author.Tests.{leb-true, leb-false, eq-eqb, ne-eqb}

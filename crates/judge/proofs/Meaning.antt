@@ -1,4 +1,4 @@
--- What a filling in memory means, field by field and template by template. Assumes nothing.
+-- What a substitution in memory means, field by field and template by template. Assumes nothing.
 use mathlib.Core.Path.{_≡_, sym, ap, subst, _∙_}
 use mathlib.Core.List.{List, [], map}
 use Prim.Native.Nat.{ℕ, _+_, _<_, _≤_}

@@ -5,11 +5,11 @@ use scan::wide;
 ghost use mathlib.Core.Path.{_≡_};
 ghost use Prim.Native.Nat.{_<_};
 ghost use lib.ListN.{length};
-ghost use Rattle.model.specs.Lists.{all};
-ghost use Rattle.model.specs.Sheet.{sheetOf, equation, constraint};
+ghost use Rattle.model.specs.Sheet.{Accepted, sheetOf, equation, constraint};
 ghost use Rattle.model.specs.Word.{weight};
 ghost use Rattle.model.specs.Word as model;
 ghost use Rattle.fields.specs.Memory.{Held, meaning};
+ghost use Rattle.judge.specs.Asks.{many, holdsAt, holdFrom};
 
 // Whether both templates of equation p spell the same word.
 fn equation_holds(sheet: &[u8], p: usize, g: Substitution) -> bool
@@ -47,34 +47,47 @@ fn constraint_holds(sheet: &[u8], r: usize, g: Substitution) -> bool
     weigh(sheet, r, g) <= parts::most(sheet, r)
 }
 
-// Whether every equation holds.
-fn equations_hold(sheet: &[u8], g: Substitution) -> bool
-    requires { ⌜ Held (now sheet) g ⌝ }
-    ensures { λ r. ⌜ r ≡ all (model.equationHolds (sheetOf (now (sheet .entry))) (meaning (now (sheet .entry)) g)) (sheetOf (now (sheet .entry)) .equations) ⌝ }
-{
-    let equations = wide(parts::four_counts(sheet).equations);
-    let mut p: usize = 0;
-    while p < equations {
-        if !equation_holds(sheet, p, g) {
-            return false;
-        }
-        p += 1;
-    }
-    true
+// What a sheet asks, by its kind.
+enum Kind {
+    Equations,
+    Constraints,
 }
 
-// Whether every constraint holds.
-fn constraints_hold(sheet: &[u8], g: Substitution) -> bool
-    requires { ⌜ Held (now sheet) g ⌝ }
-    ensures { λ r. ⌜ r ≡ all (model.constraintHolds (sheetOf (now (sheet .entry))) (meaning (now (sheet .entry)) g)) (sheetOf (now (sheet .entry)) .constraints) ⌝ }
+// How many there are of a kind.
+fn count(sheet: &[u8], kind: Kind) -> usize
+    requires { ⌜ Accepted (now sheet) ⌝ }
+    ensures { λ r. ⌜ r ≡ many kind (sheetOf (now (sheet .entry))) ⌝ }
 {
-    let constraints = wide(parts::four_counts(sheet).constraints);
-    let mut r: usize = 0;
-    while r < constraints {
-        if !constraint_holds(sheet, r, g) {
+    let counts = parts::four_counts(sheet);
+    match kind {
+        Kind::Equations => wide(counts.equations),
+        Kind::Constraints => wide(counts.constraints),
+    }
+}
+
+// Whether number i of a kind holds.
+fn holds(sheet: &[u8], kind: Kind, i: usize, g: Substitution) -> bool
+    requires { ⌜ Held (now sheet) g × (i < many kind (sheetOf (now sheet))) ⌝ }
+    ensures { λ r. ⌜ r ≡ holdsAt kind (sheetOf (now (sheet .entry))) (meaning (now (sheet .entry)) g) i ⌝ }
+{
+    match kind {
+        Kind::Equations => equation_holds(sheet, i, g),
+        Kind::Constraints => constraint_holds(sheet, i, g),
+    }
+}
+
+// Whether all of a kind hold.
+fn all_hold(sheet: &[u8], kind: Kind, g: Substitution) -> bool
+    requires { ⌜ Held (now sheet) g ⌝ }
+    ensures { λ r. ⌜ r ≡ holdFrom kind (sheetOf (now (sheet .entry))) (meaning (now (sheet .entry)) g) 0 ⌝ }
+{
+    let n = count(sheet, kind);
+    let mut i: usize = 0;
+    while i < n {
+        if !holds(sheet, kind, i, g) {
             return false;
         }
-        r += 1;
+        i += 1;
     }
     true
 }
@@ -84,8 +97,8 @@ pub fn solves(sheet: &[u8], g: Substitution) -> bool
     requires { ⌜ Held (now sheet) g ⌝ }
     ensures { λ r. ⌜ r ≡ model.solves (sheetOf (now (sheet .entry))) (meaning (now (sheet .entry)) g) ⌝ }
 {
-    if !equations_hold(sheet, g) {
+    if !all_hold(sheet, Kind::Equations, g) {
         return false;
     }
-    constraints_hold(sheet, g)
+    all_hold(sheet, Kind::Constraints, g)
 }

@@ -14,6 +14,7 @@ use Rattle.lengths.specs.declared.Stage.{Stage}
 use Rattle.attempt.specs.Attempt.{Equation, startOf, attemptOf}
 use Rattle.inequalities.specs.Rows.{Within, rowsHold}
 
+-- the total of six lengths
 unfoldable pub sumOf : List ℕ → ℕ
 sumOf m = lists.total 6 (λ f. getD m f 0)
 

@@ -2,11 +2,9 @@
 //
 // A box is every vector from `lo` to `hi`. A box is cut when none of its vectors has a total that is asked for, or when it is hopeless: one of
 // the rows of `inequalities` holds at none of them.
+use fields::EMPTY;
 use fields::FIELDS;
-use fields::Field;
 use fields::Lengths;
-use fields::PAST;
-use fields::PLACES;
 use fields::Substitution;
 use scan::wide;
 use unification::Found;
@@ -38,10 +36,7 @@ pub fn none() -> Found
 {
     Found {
         ok: false,
-        substitution: [Field {
-            letters: [PAST; PLACES],
-            len: 0,
-        }; FIELDS],
+        substitution: [EMPTY; FIELDS],
     }
 }
 

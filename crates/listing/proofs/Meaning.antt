@@ -12,12 +12,10 @@ use borrow.Author.Tests.{leb-true, leb-false, le-leb, lt-leb}
 use Rattle.model.specs.Lists.{pick, same, each, any, all, keep}
 use Rattle.formula.specs.Assignment.{truth}
 use Rattle.formula.specs.Dimacs.{numbers}
-use Rattle.calls.specs.Reply.{split, spaced, lines, satisfiableLine, statusLine, valueLine, before, oneStatus, lineNumbers, given}
-use Rattle.calls.specs.Reply.{isEmpty, closed, inCount, distinct, givenOnce, isPlus, assigned}
+use Rattle.calls.specs.Reply.{split, spaced, lines, satisfiableLine, statusLine, valueLine, before, oneStatus, lineNumbers, given, isEmpty, closed, inCount, distinct, givenOnce, isPlus, assigned}
 use Rattle.model.proofs.Lists.{by-test, and-split, same-equal}
 use Rattle.listing.specs.declared.Tally.{Tally}
-use Rattle.listing.specs.Tally.{State, isMarked, noted, marked, isPos, afterNumber}
-use Rattle.listing.specs.Tally.{afterNumbers, withValues, afterLine, afterLines, nothing}
+use Rattle.listing.specs.Tally.{State, isMarked, noted, marked, isPos, afterNumber, afterNumbers, withValues, afterLine, afterLines, nothing}
 use Rattle.listing.proofs.Marks.{marked-long, marked-one, truth-one}
 
 -- Tests, in another order or form.

@@ -1,4 +1,4 @@
--- Clauses by name as the code has them, and their literals as nine codes.
+-- Clauses by name as the code has them, their lines, and their literals as nine codes.
 use mathlib.Core.List.{List, _++_, map}
 use Prim.Native.Nat.{ℕ, _+_, _-_, _*_}
 use lib.Dec.{ltb}
@@ -8,7 +8,8 @@ use Rattle.model.specs.Sheet.{Sheet}
 use Rattle.model.specs.Cells.{Cell, letter, place}
 use Rattle.formula.specs.Clause as model
 use Rattle.formula.specs.Clause.{K, cell, terms}
-use Rattle.formula.specs.Numbering.{number}
+use Rattle.formula.specs.Numbering.{number, clause}
+use Rattle.formula.specs.Dimacs.{clauseLine}
 use Rattle.dimacs.specs.Codes.{termCode}
 use Rattle.literals.specs.declared.ClauseId.{ClauseId}
 use Rattle.literals.specs.declared.ClauseId.the-variants.{SomeValue, NotBoth, BlankTail, Start, Left, Right, Both, Match, End, Zero, Add, Bound}
@@ -27,6 +28,10 @@ nameOf (End p i j) = model.End p i j
 nameOf (Zero r) = model.Zero r
 nameOf (Add r k n d) = model.Add r k n d
 nameOf (Bound r n) = model.Bound r n
+
+-- The line of a clause.
+abbrev pub lineOf : Sheet → model.ClauseId → List ℕ
+lineOf s q = clauseLine (clause s q)
 
 -- The code of a literal that says of a cell that it is a or, with sign 1, that it is not: 0 for a letter cell, and past the last cell.
 abbrev pub placeCode : Sheet → Cell → ℕ → ℕ → ℕ

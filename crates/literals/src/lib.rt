@@ -1,4 +1,4 @@
-// A clause by its name, and its literals as codes: twice the variable's number, and one more for its negation; 0 for none.
+// A clause by its name, its literals as codes (twice the variable's number, and one more for its negation; 0 for none), and its line.
 use scan::wide;
 use shape::FIRST_PLACE;
 use shape::USED;
@@ -7,6 +7,7 @@ ghost use Prim.Native.Nat.{_+_, _-_, _*_, _<_, _≤_};
 ghost use lib.Dec.{ltb};
 ghost use lib.ListN.{length};
 ghost use lib.IntN.{pos, _+ℤ_, _*ℤ_};
+ghost use Rattle.model.specs.Lists.{Puts};
 ghost use Rattle.model.specs.Sheet.{sheetOf, limit, template, constraint, coefficient};
 ghost use Rattle.model.specs.Range.{Admitted};
 ghost use Rattle.model.specs.Cells.{cells};
@@ -16,7 +17,7 @@ ghost use Rattle.formula.specs.Numbering.{VariableIn};
 ghost use Rattle.formula.specs.Numbering as variable;
 ghost use Rattle.formula.specs.Count.{PlaceIn, IdIn};
 ghost use Rattle.dimacs.specs.Codes.{termCode};
-ghost use Rattle.literals.specs.Name.{nameOf, cellCode, nine};
+ghost use Rattle.literals.specs.Name.{nameOf, lineOf, cellCode, nine};
 
 // The name of a clause: of a place of a field; of an equation, or a location of it; of a constraint. The sums of Add and Bound are signed.
 pub enum ClauseId {
@@ -40,11 +41,13 @@ pub const MOST_LITERALS: usize = 9;
 // How far apart the bytes of the first places of two fields are.
 const PLACES: usize = 8;
 
-const LEFT: usize = 0;
+// The sides of an equation.
+pub const LEFT: usize = 0;
 
-const RIGHT: usize = 1;
+pub const RIGHT: usize = 1;
 
-const IS: usize = 0;
+// The signs of a literal.
+pub const IS: usize = 0;
 
 const IS_NOT: usize = 1;
 
@@ -284,4 +287,13 @@ pub fn codes(sheet: &[u8], id: ClauseId) -> [usize; MOST_LITERALS]
         ClauseId::Add(r, k, n, d) => add(sheet, r, k, n, d),
         ClauseId::Bound(r, n) => bound(sheet, r, n),
     }
+}
+
+// The line of a clause, at an offset of the buffer. Returns the offset past it.
+pub fn put_clause(buf: &mut [u8], at: usize, sheet: &[u8], id: ClauseId) -> usize
+    requires { ⌜ Admitted (now sheet) × IdIn (sheetOf (now sheet)) (nameOf id) × (at + length (lineOf (sheetOf (now sheet)) (nameOf id)) ≤ length (now buf)) ⌝ }
+    ensures { λ r. ⌜ Puts (now (buf .entry)) at (lineOf (sheetOf (now (sheet .entry))) (nameOf id)) (now (buf .exit)) r ⌝ }
+{
+    let codes = codes(sheet, id);
+    dimacs::clause_line(buf, at, &codes)
 }

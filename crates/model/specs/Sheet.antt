@@ -194,6 +194,7 @@ pub record Counts : Type 0 where
 abbrev pub mark : List ℕ
 mark = 84 ∷ 80 ∷ 76 ∷ []
 
+-- the byte at an offset, and "Offsets 5 to 8: letter count L .., field count V .., pair count E .., rule count R"
 abbrev pub byte : List ℕ → ℕ → ℕ
 byte b k = getD b k 0
 
@@ -252,6 +253,7 @@ bytesOf n = n / 256 ∷ n % 256 ∷ []
 abbrev pub encodeConstraint : Constraint → List ℕ
 encodeConstraint r = map (unsigned 128) (r .coefficients) ++ bytesOf (unsigned 32768 (r .most))
 
+-- the four counts that a sheet's header has
 abbrev pub countsOf : Sheet → Counts
 countsOf s = record {
   letter-count = length (s .letters);

@@ -59,17 +59,16 @@ module _ (s : Sheet) (marks : List ℕ) (f c first a : ℕ) (e : first ≡ numbe
       let q = number-next s f c a in
       omega arith
 
+  here : number s (K f c a) ≡ first + a
+  here = number-next s f c a ∙ ap (λ n. n + a) (sym e)
+
   pub is-true : getD marks (first + a) 0 ≡ 1 → isTrue s marks f c a ≡ true
   unfolding truth
-  is-true h =
-      let q : number s (K f c a) ≡ first + a = number-next s f c a ∙ ap (λ n. n + a) (sym e) in
-      rw q (eq-eqb _ _ h)
+  is-true h = rw here (eq-eqb _ _ h)
 
   pub is-false : (getD marks (first + a) 0 ≡ 1 → ⊥) → isTrue s marks f c a ≡ false
   unfolding truth
-  is-false h =
-      let q : number s (K f c a) ≡ first + a = number-next s f c a ∙ ap (λ n. n + a) (sym e) in
-      rw q (ne-eqb _ _ h)
+  is-false h = rw here (ne-eqb _ _ h)
 
 -- the values from a on have been counted, and the least of them noted: l is blank
 pub record Counted (p : ℕ → Bool) (l a count least : ℕ) : Type 0 where

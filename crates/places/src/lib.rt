@@ -1,4 +1,5 @@
 // What marks say of the fields' places: which values are true at each, and the substitution that they spell.
+use fields::EMPTY;
 use fields::FIELDS;
 use fields::Field;
 use fields::PAST;
@@ -149,10 +150,7 @@ pub fn spelled(sheet: &[u8], marks: &[u8]) -> Substitution
     ensures { λ g. ⌜ Held (now (sheet .entry)) g × (meaning (now (sheet .entry)) g ≡ assignment.spelled (sheetOf (now (sheet .entry))) (truth (now (marks .entry)))) ⌝ }
 {
     let fields = shape::fields(sheet);
-    let mut g = [Field {
-        letters: [PAST; PLACES],
-        len: 0,
-    }; FIELDS];
+    let mut g = [EMPTY; FIELDS];
     let mut f: usize = 0;
     while f < fields {
         let field = field_text(sheet, marks, f);

@@ -1,7 +1,7 @@
 -- What is asked of the search: lengths in ranges, and some of a sheet's equations and constraints.
 use mathlib.Core.Path.{_≡_}
 use mathlib.Core.Bool.{true, false}
-use mathlib.Core.List.{List, [], _∷_}
+use mathlib.Core.List.{List}
 use Prim.Native.Nat.{ℕ, _<_, _≤_}
 use lib.ListN.{getD}
 use Rattle.model.specs.Lists.{All}

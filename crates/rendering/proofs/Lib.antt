@@ -1,4 +1,2 @@
-pub mod Located
-pub mod Rows
 pub mod Summed
 pub mod Whole

@@ -25,9 +25,11 @@ use Rattle.dimacs.specs.Codes.{codesLine, termCode}
 use Rattle.dimacs.proofs.Coded.{terms-line}
 use Rattle.scan.proofs.Machine.{small-back}
 use Rattle.numbering.proofs.Laws.{sum-fits}
-use Rattle.rendering.specs.Lines.{lineOf, sumLines, boundLine}
-use Rattle.rendering.specs.Codes.{mostCode, addLine, Added}
-use Rattle.rendering.proofs.Located.{same-four}
+use Rattle.literals.specs.Name.{lineOf}
+use Rattle.locations.specs.Codes.{mostCode}
+use Rattle.rendering.specs.Lines.{sumLines, boundLine}
+use Rattle.rendering.specs.Codes.{addLine, Added}
+use Rattle.locations.proofs.Located.{same-four}
 
 -- The number of a sum by that of the least, and of a place's value by that of the first place.
 pub sum-number : (s : Sheet) (r k : ℕ) (z : ℤ)
@@ -132,11 +134,11 @@ module _ (s : Sheet) (ok : InRange s) (r : ℕ) (hr : r < length (s .constraints
   low-in = (hr, hk, rw low-back least-in)
 
   module _ (q : ℕ) (e : q ≡ 2 * number s (T r k (toZ w16 (ofZ w16 low))) + 0) where
-    pub low-code : q ≡ 2 * number s (T r k (least s (constraint s r) k))
-    low-code = let n = ap (λ z. number s (T r k z)) low-back in omega arith
-
-    pub low-few : q ≤ mostCode
-    low-few = omega (arith, low-code, number-small s (T r k (least s (constraint s r) k)) (hr, hk, least-in), variables-small s ok)
+    pub low-code : (q ≡ 2 * number s (T r k (least s (constraint s r) k))) × (q ≤ mostCode)
+    low-code =
+        let n = ap (λ z. number s (T r k z)) low-back in
+        let is : q ≡ 2 * number s (T r k (least s (constraint s r) k)) = omega arith in
+        (is, omega (arith, number-small s (T r k (least s (constraint s r) k)) (hr, hk, least-in), variables-small s ok))
 
 -- so a coefficient
 pub coefficient-back : (s : Sheet) → InRange s → (r : ℕ) → r < length (s .constraints) → (k : ℕ) (co : ℤ) → co ≡ coefficient (constraint s r) k

@@ -19,27 +19,29 @@ use Rattle.model.proofs.Keeping.{each-map, loop-same}
 use Rattle.model.proofs.Pieces.{each-from, each-each, each-at}
 use Rattle.formula.proofs.Totals.{fieldPart, locationPart, rowPart, equationPart, sumPart, stepPart, boundPart, constraintPart, fieldParts, equationParts, constraintParts, ids-are}
 use Rattle.dimacs.proofs.Coded.{terms-line}
-use Rattle.rendering.specs.Lines.{lineOf, linesOf, placeLines, fieldLines, locationLines, rowLines, equationLines, sumLines, stepLines, boundLine, boundLines, constraintLines, sectionLines}
-use Rattle.rendering.specs.Codes.{pairLine, pairLines}
-use Rattle.rendering.proofs.Located.{value-number}
+use Rattle.literals.specs.Name.{lineOf}
+use Rattle.locations.specs.Lines.{linesOf, locationLines, rowLines, equationLines}
+use Rattle.locations.specs.Codes.{unlikeLine}
+use Rattle.rendering.specs.Lines.{placeLines, fieldLines, sumLines, stepLines, boundLine, boundLines, constraintLines, sectionLines}
+use Rattle.rendering.specs.Codes.{pairLines}
+use Rattle.locations.proofs.Located.{value-number}
 
 -- The lines of a place.
-pair-codes : (s : Sheet) (f c first : ℕ) → first ≡ 2 * number s (K f c 0) → (a k : ℕ) → lineOf s (NotBoth f c a (suc a + k)) ≡ pairLine first a k
-unfolding terms pairLine
+pair-codes : (s : Sheet) (f c first : ℕ) → first ≡ 2 * number s (K f c 0) → (a k : ℕ) → lineOf s (NotBoth f c a (suc a + k)) ≡ unlikeLine (first + 2 * a) first (a + 1) k
+unfolding terms unlikeLine
 pair-codes s f c first e a k =
     let x : 2 * number s (K f c a) + 1 ≡ first + 2 * a + 1 = omega (arith, value-number s f c a) in
     let y : 2 * number s (K f c (suc a + k)) + 1 ≡ first + 2 * (a + 1 + k) + 1 = omega (arith, value-number s f c (suc a + k)) in
     sym (terms-line s (NotBoth f c a (suc a + k))) ∙ rw (x, y)
 
 pairs-are : (s : Sheet) (f c first : ℕ) → first ≡ 2 * number s (K f c 0) → (a : ℕ) → linesOf s (notBothIds s f c a) ≡ pairLines first (blank s) a
-unfolding pairLines
 pairs-are s f c first e a =
     let line : ℕ → List ℕ = λ b. lineOf s (NotBoth f c a b) in
     let z : suc a ≡ suc a + 0 = omega arith in
     each-map (NotBoth f c a) (from (suc a) (blank s - a)) (lineOf s)
     ∙ ap (λ m. each (from m (blank s - a)) line) z
     ∙ each-from line (suc a) 0 (blank s - a)
-    ∙ loop-same (λ k. line (suc a + k)) (pairLine first a) (blank s - a) (λ k _. pair-codes s f c first e a k)
+    ∙ loop-same (λ k. line (suc a + k)) (unlikeLine (first + 2 * a) first (a + 1)) (blank s - a) (λ k _. pair-codes s f c first e a k)
 
 -- one line; one line under a test
 one-line : (s : Sheet) (q : ClauseId) → linesOf s (q ∷ []) ≡ lineOf s q

@@ -3,20 +3,12 @@
 use mathlib.Core.List.{List, _++_}
 use Prim.Native.Nat.{ℕ, suc, _+_, _-_}
 use lib.IntN.{pos, _+ℤ_}
-use lib.ListN.{length}
 use Rattle.model.specs.Lists.{each, upTo}
 use Rattle.model.specs.Sheet.{Sheet, limit, constraint}
-use Rattle.formula.specs.Clause.{ClauseId, Start, Zero, Add, Bound, placeIds, least, spread, blank, fields, leftCells, rightCells}
-use Rattle.formula.specs.Count.{Section, ofFields, ofEquations, ofConstraints, side, standing, within, parts}
-use Rattle.formula.specs.Numbering.{clause}
-use Rattle.formula.specs.Dimacs.{clauseLine}
-
--- the line of a clause, and of several
-abbrev pub lineOf : Sheet → ClauseId → List ℕ
-lineOf s q = clauseLine (clause s q)
-
-abbrev pub linesOf : Sheet → List ClauseId → List ℕ
-linesOf s qs = each qs (lineOf s)
+use Rattle.formula.specs.Clause.{Zero, Add, Bound, placeIds, least, spread, fields}
+use Rattle.formula.specs.Count.{Section, ofFields, ofEquations, ofConstraints, within, parts}
+use Rattle.literals.specs.Name.{lineOf}
+use Rattle.locations.specs.Lines.{linesOf, equationLines}
 
 -- of a place of a field, and of a field
 unfoldable pub placeLines : Sheet → ℕ → ℕ → List ℕ
@@ -24,16 +16,6 @@ placeLines s f c = linesOf s (placeIds s f c)
 
 unfoldable pub fieldLines : Sheet → ℕ → List ℕ
 fieldLines s f = each (upTo (limit s f)) (placeLines s f)
-
--- of a location, of a row of locations, and of an equation
-unfoldable pub locationLines : Sheet → ℕ → ℕ → ℕ → List ℕ
-locationLines s p i j = linesOf s (standing (blank s) p i j (side (leftCells s p) i) (side (rightCells s p) j))
-
-unfoldable pub rowLines : Sheet → ℕ → ℕ → List ℕ
-rowLines s p i = each (upTo (suc (length (rightCells s p)))) (locationLines s p i)
-
-unfoldable pub equationLines : Sheet → ℕ → List ℕ
-equationLines s p = lineOf s (Start p) ++ each (upTo (suc (length (leftCells s p)))) (rowLines s p)
 
 -- of a sum of the first k fields, the n-th from the least on; of field k's step; of the final sums above the limit; of a constraint
 unfoldable pub sumLines : Sheet → ℕ → ℕ → ℕ → List ℕ

@@ -1,63 +1,29 @@
-// The whole clause file of an accepted sheet, written into a lent buffer part by part. Codes are worked out once for a place, an equation or a
-// step, and those of its lines follow from them by adding.
+// The whole clause file of an accepted sheet, written into a lent buffer part by part. Codes are worked out once for a place or a step, and those of its
+// lines follow from them by adding. A function that writes returns the offset past what it has written.
 use dimacs::clause_line;
 use literals::ClauseId;
-use scan::wide;
-use shape::FIRST_PLACE;
-use shape::ROOM;
+use literals::IS;
+use literals::put_clause;
+use locations::put_equation;
+use locations::put_unlike;
 use shape::Section;
-use shape::USED;
 ghost use mathlib.Core.Path.{_≡_};
-ghost use mathlib.Core.List.{map};
 ghost use Prim.Native.Nat.{ℕ, suc, _+_, _-_, _*_, _<_, _≤_};
 ghost use lib.Dec.{ltb};
 ghost use lib.IntN.{pos, natAbs, _+ℤ_, _-ℤ_, _*ℤ_};
 ghost use lib.ListN.{length};
 ghost use Rattle.model.specs.Lists.{pick, each, upTo, Puts};
-ghost use Rattle.model.specs.Sheet.{sheetOf, template};
+ghost use Rattle.model.specs.Sheet.{sheetOf};
 ghost use Rattle.model.specs.Sheet as model;
 ghost use Rattle.model.specs.Range.{Admitted};
-ghost use Rattle.model.specs.Cells.{cells};
 ghost use Rattle.formula.specs.Clause.{K, fields, blank};
 ghost use Rattle.formula.specs.Numbering.{number};
-ghost use Rattle.formula.specs.Count.{PlaceIn, IdIn, SideIn, parts};
+ghost use Rattle.formula.specs.Count.{PlaceIn, parts};
 ghost use Rattle.formula.specs.Dimacs.{file};
-ghost use Rattle.shape.specs.Bytes.{sideOf};
 ghost use Rattle.shape.specs.Name.{sectionOf};
-ghost use Rattle.literals.specs.Name.{nameOf, cellCode};
-ghost use Rattle.rendering.specs.Lines.{lineOf, placeLines, fieldLines, equationLines, stepLines, boundLines, constraintLines, partLines, sectionLines};
-ghost use Rattle.rendering.specs.Codes.{mostCode, largeCode, pairLines, unlikeLine, matchLine, pastLines, letterLines, openLines, crossLines, Crossed, rowOf, Rowed, addLine, Added};
-
-// The sides of an equation.
-const LEFT: usize = 0;
-
-const RIGHT: usize = 1;
-
-// A literal that is not negated.
-const IS: usize = 0;
-
-// The line of a clause, at an offset of the buffer. Returns the offset past it, as all functions here do.
-fn put_clause(buf: &mut [u8], at: usize, sheet: &[u8], id: ClauseId) -> usize
-    requires { ⌜ Admitted (now sheet) × IdIn (sheetOf (now sheet)) (nameOf id) × (at + length (lineOf (sheetOf (now sheet)) (nameOf id)) ≤ length (now buf)) ⌝ }
-    ensures { λ r. ⌜ Puts (now (buf .entry)) at (lineOf (sheetOf (now (sheet .entry))) (nameOf id)) (now (buf .exit)) r ⌝ }
-{
-    let codes = literals::codes(sheet, id);
-    clause_line(buf, at, &codes)
-}
-
-// Not value a and a later one, each later one; `first` is the code of value 0.
-fn put_pairs(buf: &mut [u8], at: usize, first: usize, letters: usize, a: usize) -> usize
-    requires { ⌜ (first ≤ mostCode) × (letters ≤ 8) × (a ≤ letters) × (at + length (pairLines first letters a) ≤ length (now buf)) ⌝ }
-    ensures { λ r. ⌜ Puts (now (buf .entry)) at (pairLines first letters a) (now (buf .exit)) r ⌝ }
-{
-    let mut past = at;
-    let mut k: usize = 0;
-    while k < letters - a {
-        past = clause_line(buf, past, &[first + 2 * a + 1, first + 2 * (a + 1 + k) + 1]);
-        k += 1;
-    }
-    past
-}
+ghost use Rattle.locations.specs.Codes.{mostCode, largeCode};
+ghost use Rattle.rendering.specs.Lines.{placeLines, fieldLines, stepLines, boundLines, constraintLines, partLines, sectionLines};
+ghost use Rattle.rendering.specs.Codes.{pairLines, addLine, Added};
 
 // Not two values at once, each two.
 fn put_all_pairs(buf: &mut [u8], at: usize, first: usize, letters: usize) -> usize
@@ -67,7 +33,7 @@ fn put_all_pairs(buf: &mut [u8], at: usize, first: usize, letters: usize) -> usi
     let mut past = at;
     let mut a: usize = 0;
     while a <= letters {
-        past = put_pairs(buf, past, first, letters, a);
+        past = put_unlike(buf, past, first + 2 * a, first, a + 1, letters - a);
         a += 1;
     }
     past
@@ -99,191 +65,6 @@ fn put_field(buf: &mut [u8], at: usize, sheet: &[u8], f: usize) -> usize
     while c < limit {
         past = put_place(buf, past, sheet, f, c);
         c += 1;
-    }
-    past
-}
-
-// Document 01's E at a location, of a place on the left against a letter on the right: for letter `first` and those after it, n of them.
-fn put_unlike(buf: &mut [u8], at: usize, here: usize, x: usize, first: usize, n: usize) -> usize
-    requires { ⌜ (here ≤ largeCode) × (x ≤ largeCode) × (first + n ≤ 9) × (at + length (each (upTo n) (unlikeLine here x first)) ≤ length (now buf)) ⌝ }
-    ensures { λ r. ⌜ Puts (now (buf .entry)) at (each (upTo n) (unlikeLine here x first)) (now (buf .exit)) r ⌝ }
-{
-    let mut past = at;
-    let mut k: usize = 0;
-    while k < n {
-        past = clause_line(buf, past, &[here + 1, x + 2 * (first + k) + 1]);
-        k += 1;
-    }
-    past
-}
-
-// E of a place on the left against a place on the right, for every letter.
-fn put_matches(buf: &mut [u8], at: usize, l: usize, here: usize, x: usize, y: usize) -> usize
-    requires { ⌜ (l ≤ 8) × (here ≤ largeCode) × (x ≤ largeCode) × (y ≤ largeCode) × (at + length (each (upTo l) (matchLine l here x y)) ≤ length (now buf)) ⌝ }
-    ensures { λ r. ⌜ Puts (now (buf .entry)) at (each (upTo l) (matchLine l here x y)) (now (buf .exit)) r ⌝ }
-{
-    let mut past = at;
-    let mut a: usize = 0;
-    while a < l {
-        past = clause_line(buf, past, &[here + 1, y + 2 * l, x + 2 * a + 1, y + 2 * a]);
-        a += 1;
-    }
-    past
-}
-
-// A location where the left side is used up: F, and C before it where a place is on the right.
-fn put_past(buf: &mut [u8], at: usize, l: usize, here: usize, v: u8, y: usize) -> usize
-    requires { ⌜ (l ≤ 8) × (here ≤ largeCode) × (y ≤ largeCode) × (at + length (pastLines l here (sideOf v) y) ≤ length (now buf)) ⌝ }
-    ensures { λ r. ⌜ Puts (now (buf .entry)) at (pastLines l here (sideOf v) y) (now (buf .exit)) r ⌝ }
-{
-    if v == USED {
-        return at;
-    }
-    if v < FIRST_PLACE {
-        return clause_line(buf, at, &[here + 1]);
-    }
-    let past = clause_line(buf, at, &[here + 1, y + 2 * l + 1, here + 2]);
-    clause_line(buf, past, &[here + 1, y + 2 * l])
-}
-
-// A location with letter a on the left: F, or C where a place is on the right, D, and E where the letters differ.
-fn put_letter(
-    buf: &mut [u8],
-    at: usize,
-    l: usize,
-    down: usize,
-    here: usize,
-    a: u8,
-    v: u8,
-    y: usize,
-) -> usize
-    requires { ⌜ Crossed l down here 0 y × (a < 8) × (at + length (letterLines l down here a (sideOf v) y) ≤ length (now buf)) ⌝ }
-    ensures { λ r. ⌜ Puts (now (buf .entry)) at (letterLines l down here a (sideOf v) y) (now (buf .exit)) r ⌝ }
-{
-    if v == USED {
-        return clause_line(buf, at, &[here + 1]);
-    }
-    if v < FIRST_PLACE {
-        let past = clause_line(buf, at, &[here + 1, here + down + 2]);
-        if a == v {
-            return past;
-        }
-        return clause_line(buf, past, &[here + 1]);
-    }
-    let c = clause_line(buf, at, &[here + 1, y + 2 * l + 1, here + 2]);
-    let d = clause_line(buf, c, &[here + 1, y + 2 * l, here + down + 2]);
-    clause_line(buf, d, &[here + 1, y + 2 * l, y + 2 * wide(a)])
-}
-
-// A location with a place on the left: B, and then F, or C where a place is on the right, D and E.
-fn put_open(
-    buf: &mut [u8],
-    at: usize,
-    l: usize,
-    down: usize,
-    here: usize,
-    x: usize,
-    v: u8,
-    y: usize,
-) -> usize
-    requires { ⌜ Crossed l down here x y × SideIn l (sideOf v) × (at + length (openLines l down here x (sideOf v) y) ≤ length (now buf)) ⌝ }
-    ensures { λ r. ⌜ Puts (now (buf .entry)) at (openLines l down here x (sideOf v) y) (now (buf .exit)) r ⌝ }
-{
-    let b = clause_line(buf, at, &[here + 1, x + 2 * l + 1, here + down]);
-    if v == USED {
-        return clause_line(buf, b, &[here + 1, x + 2 * l]);
-    }
-    if v < FIRST_PLACE {
-        let d = clause_line(buf, b, &[here + 1, x + 2 * l, here + down + 2]);
-        let e = put_unlike(buf, d, here, x, 0, wide(v));
-        return put_unlike(buf, e, here, x, wide(v) + 1, l - wide(v) - 1);
-    }
-    let c = clause_line(buf, b, &[here + 1, x + 2 * l, y + 2 * l + 1, here + 2]);
-    let d = clause_line(buf, c, &[here + 1, x + 2 * l, y + 2 * l, here + down + 2]);
-    put_matches(buf, d, l, here, x, y)
-}
-
-// A location, by the bytes u and v of its two sides, and their codes x and y where they are places.
-fn put_cross(
-    buf: &mut [u8],
-    at: usize,
-    l: usize,
-    down: usize,
-    here: usize,
-    u: u8,
-    x: usize,
-    v: u8,
-    y: usize,
-) -> usize
-    requires { ⌜ Crossed l down here x y × SideIn l (sideOf v) × (at + length (crossLines l down here (sideOf u) x (sideOf v) y) ≤ length (now buf)) ⌝ }
-    ensures { λ r. ⌜ Puts (now (buf .entry)) at (crossLines l down here (sideOf u) x (sideOf v) y) (now (buf .exit)) r ⌝ }
-{
-    if u == USED {
-        return put_past(buf, at, l, here, v, y);
-    }
-    if u < FIRST_PLACE {
-        return put_letter(buf, at, l, down, here, u, v, y);
-    }
-    put_open(buf, at, l, down, here, x, v, y)
-}
-
-// A row of n locations, the first of which has code `here`; `right` and y have the bytes and the codes of the right side.
-fn put_row(
-    buf: &mut [u8],
-    at: usize,
-    l: usize,
-    n: usize,
-    here: usize,
-    u: u8,
-    x: usize,
-    right: [u8; ROOM],
-    y: [usize; ROOM],
-) -> usize
-    requires { ⌜ Rowed l n here x right y × (at + length (rowOf l n here u x right y) ≤ length (now buf)) ⌝ }
-    ensures { λ r. ⌜ Puts (now (buf .entry)) at (rowOf l n here u x right y) (now (buf .exit)) r ⌝ }
-{
-    let down = 2 * n;
-    let mut past = at;
-    let mut j: usize = 0;
-    while j < n {
-        past = put_cross(buf, past, l, down, here + 2 * j, u, x, right[j], y[j]);
-        j += 1;
-    }
-    past
-}
-
-// The codes of value 0 of the places on one side of equation p, and 0 for its letters and past them.
-fn cell_codes(sheet: &[u8], p: usize, side: usize) -> [usize; ROOM]
-    requires { ⌜ Admitted (now sheet) × (p < length (sheetOf (now sheet) .equations)) ⌝ }
-    ensures { λ r. ⌜ r ≡ map (λ i. cellCode (sheetOf (now (sheet .entry))) (cells (sheetOf (now (sheet .entry))) (template (sheetOf (now (sheet .entry))) p side)) i 0 0) (upTo 25) ⌝ }
-{
-    let mut codes = [0usize; ROOM];
-    let mut i: usize = 0;
-    while i < ROOM {
-        codes[i] = literals::cell_code(sheet, p, side, i, 0, IS);
-        i += 1;
-    }
-    codes
-}
-
-// Equation p.
-fn put_equation(buf: &mut [u8], at: usize, sheet: &[u8], p: usize) -> usize
-    requires { ⌜ Admitted (now sheet) × (p < length (sheetOf (now sheet) .equations)) × (at + length (equationLines (sheetOf (now sheet)) p) ≤ length (now buf)) ⌝ }
-    ensures { λ r. ⌜ Puts (now (buf .entry)) at (equationLines (sheetOf (now (sheet .entry))) p) (now (buf .exit)) r ⌝ }
-{
-    let l = shape::letters(sheet);
-    let m = shape::width(sheet, p, LEFT);
-    let n = shape::width(sheet, p, RIGHT) + 1;
-    let left = shape::side(sheet, p, LEFT);
-    let right = shape::side(sheet, p, RIGHT);
-    let x = cell_codes(sheet, p, LEFT);
-    let y = cell_codes(sheet, p, RIGHT);
-    let here = literals::location_code(sheet, p, 0, 0, IS);
-    let mut past = put_clause(buf, at, sheet, ClauseId::Start(p));
-    let mut i: usize = 0;
-    while i <= m {
-        past = put_row(buf, past, l, n, here + i * (2 * n), left[i], x[i], right, y);
-        i += 1;
     }
     past
 }

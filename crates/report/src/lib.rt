@@ -11,15 +11,13 @@ ghost use Rattle.model.specs.Lists.{each, upTo, All, Puts};
 ghost use Rattle.model.specs.Sheet.{Accepted, sheetOf};
 ghost use Rattle.model.specs.Word.{letterBytes};
 ghost use Rattle.model.specs.Filling.{filling, substitutionIn};
-ghost use Rattle.calls.specs.Report.{refusedLine, fieldLine, pairLine, mostFieldLines, mostPairLines, mostReport};
+ghost use Rattle.calls.specs.Report.{refusedLine, fieldLine, pairLine, mostReport};
 ghost use Rattle.calls.specs.Report as model;
 ghost use Rattle.calls.specs.Calls.{finished, checking};
 ghost use Rattle.fields.specs.Memory.{Held, meaning};
 
 // Room for any report, and for the line of any refusal.
 pub const MOST_REPORT: usize = 236;
-
-pub const MOST_REFUSAL: usize = 12;
 
 // A line at an offset: a name with a space after it, a number of one digit, "=", a word as letter bytes, a line end. Returns the offset
 // past it.
@@ -35,7 +33,7 @@ fn line(buf: &mut [u8], at: usize, name: &[u8], n: u8, sheet: &[u8], word: &[u8]
 
 // The fields' lines, at an offset. Returns the offset past them.
 fn field_lines(buf: &mut [u8], at: usize, sheet: &[u8], g: Substitution) -> usize
-    requires { ⌜ Held (now sheet) g × (at + mostFieldLines ≤ length (now buf)) ⌝ }
+    requires { ⌜ Held (now sheet) g × (at + length (each (upTo (length (sheetOf (now sheet) .limits))) (fieldLine (sheetOf (now sheet)) (meaning (now sheet) g))) ≤ length (now buf)) ⌝ }
     ensures { λ r. ⌜ Puts (now (buf .entry)) at (each (upTo (length (sheetOf (now (sheet .entry)) .limits))) (fieldLine (sheetOf (now (sheet .entry))) (meaning (now (sheet .entry)) g))) (now (buf .exit)) r ⌝ }
 {
     let fields = parts::four_counts(sheet).fields;
@@ -52,7 +50,7 @@ fn field_lines(buf: &mut [u8], at: usize, sheet: &[u8], g: Substitution) -> usiz
 
 // The pairs' lines, at an offset. Returns the offset past them.
 fn pair_lines(buf: &mut [u8], at: usize, sheet: &[u8], g: Substitution) -> usize
-    requires { ⌜ Held (now sheet) g × (at + mostPairLines ≤ length (now buf)) ⌝ }
+    requires { ⌜ Held (now sheet) g × (at + length (each (upTo (length (sheetOf (now sheet) .equations))) (pairLine (sheetOf (now sheet)) (meaning (now sheet) g))) ≤ length (now buf)) ⌝ }
     ensures { λ r. ⌜ Puts (now (buf .entry)) at (each (upTo (length (sheetOf (now (sheet .entry)) .equations))) (pairLine (sheetOf (now (sheet .entry))) (meaning (now (sheet .entry)) g))) (now (buf .exit)) r ⌝ }
 {
     let equations = parts::four_counts(sheet).equations;

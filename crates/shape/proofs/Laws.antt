@@ -83,7 +83,7 @@ module _ (b : List ℕ) (ok : Admitted b) (p : ℕ) (h : p < length (sheetOf b .
   can-put = (ok, rw symbols-are (template-in (sheetOf b) (ok .1) p h side .symbols), omega (arith, cells-fit))
 
   module _ (last : List ℕ) (n : ℕ) (put : Puts (replicate 25 255) 0 (map cellByte (cells (sheetOf b) (map symbolOf t))) last n) where
-    pub put-side : last ≡ sideBytes (cells (sheetOf b) (template (sheetOf b) p side))
+    put-side : last ≡ sideBytes (cells (sheetOf b) (template (sheetOf b) p side))
     unfolding sideBytes
     put-side =
         put .1
@@ -91,8 +91,8 @@ module _ (b : List ℕ) (ok : Admitted b) (p : ℕ) (h : p < length (sheetOf b .
         ∙ ap (λ k. map cellByte (cells (sheetOf b) (map symbolOf t)) ++ drop k (replicate 25 255)) (length-map (cells (sheetOf b) (map symbolOf t)) cellByte)
         ∙ ap (λ u. map cellByte (cells (sheetOf b) u) ++ drop (length (cells (sheetOf b) u)) (replicate 25 255)) symbols-are
 
-    pub put-width : (n ≡ length (cells (sheetOf b) (template (sheetOf b) p side))) × (n ≤ 24)
-    put-width =
+    pub put-expands : (last ≡ sideBytes (cells (sheetOf b) (template (sheetOf b) p side))) × (n ≡ length (cells (sheetOf b) (template (sheetOf b) p side))) × (n ≤ 24)
+    put-expands =
         let k = length-map (cells (sheetOf b) (map symbolOf t)) cellByte in
         let e = ap (λ u. length (cells (sheetOf b) u)) symbols-are in
-        (omega (arith, put .0), omega (arith, put .0, cells-fit))
+        (put-side, omega (arith, put .0), omega (arith, put .0, cells-fit))

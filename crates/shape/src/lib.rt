@@ -121,14 +121,31 @@ fn put_cells(buf: &mut [u8], sheet: &[u8], symbols: &[u8]) -> usize
     at
 }
 
-// The cells of one side of equation p, the left for side 0, else the right.
+// One side of an equation: its cells, and how many it has.
+struct Expansion {
+    cells: [u8; ROOM],
+    width: usize,
+}
+
+// One side of equation p, the left for side 0, else the right.
+fn expand(sheet: &[u8], p: usize, side: usize) -> Expansion
+    requires { ⌜ Admitted (now sheet) × (p < length (sheetOf (now sheet) .equations)) ⌝ }
+    ensures { λ r. ⌜ (r .cells ≡ sideBytes (cells (sheetOf (now (sheet .entry))) (template (sheetOf (now (sheet .entry))) p side))) × (r .width ≡ length (cells (sheetOf (now (sheet .entry))) (template (sheetOf (now (sheet .entry))) p side))) × (r .width ≤ 24) ⌝ }
+{
+    let mut bytes = [USED; ROOM];
+    let width = put_cells(&mut bytes, sheet, parts::template(sheet, p, side));
+    Expansion {
+        cells: bytes,
+        width,
+    }
+}
+
+// Its cells, as bytes.
 pub fn side(sheet: &[u8], p: usize, side: usize) -> [u8; ROOM]
     requires { ⌜ Admitted (now sheet) × (p < length (sheetOf (now sheet) .equations)) ⌝ }
     ensures { λ r. ⌜ r ≡ sideBytes (cells (sheetOf (now (sheet .entry))) (template (sheetOf (now (sheet .entry))) p side)) ⌝ }
 {
-    let mut bytes = [USED; ROOM];
-    put_cells(&mut bytes, sheet, parts::template(sheet, p, side));
-    bytes
+    expand(sheet, p, side).cells
 }
 
 // How many cells it has.
@@ -136,6 +153,5 @@ pub fn width(sheet: &[u8], p: usize, side: usize) -> usize
     requires { ⌜ Admitted (now sheet) × (p < length (sheetOf (now sheet) .equations)) ⌝ }
     ensures { λ r. ⌜ (r ≡ length (cells (sheetOf (now (sheet .entry))) (template (sheetOf (now (sheet .entry))) p side))) × (r ≤ 24) ⌝ }
 {
-    let mut bytes = [USED; ROOM];
-    put_cells(&mut bytes, sheet, parts::template(sheet, p, side))
+    expand(sheet, p, side).width
 }

@@ -99,8 +99,8 @@ pub fn value(g: Substitution, u: u8) -> u8
     if u < FIRST_PLACE {
         return u;
     }
-    let t = g[((u - FIRST_PLACE) / 8) as usize];
-    t.letters[((u - FIRST_PLACE) % 8) as usize]
+    let t = g[((u - FIRST_PLACE) / shape::PLACES) as usize];
+    t.letters[((u - FIRST_PLACE) % shape::PLACES) as usize]
 }
 
 // Makes the values u and v the same, in the most general way; or fails, where they are two letters that differ.

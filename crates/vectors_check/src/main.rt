@@ -9,6 +9,7 @@ use fields::MOST_BYTES;
 use hex::after;
 use hex::decode;
 use hex::find;
+use hex::signed;
 use libc::STDIN_FILENO;
 use libc::STDOUT_FILENO;
 use report::MOST_REPORT;
@@ -163,9 +164,4 @@ fn number(bytes: &[u8; ASKED], at: usize) -> usize
         i += 1;
     }
     n
-}
-
-// A byte as what `io::count` takes.
-fn signed(x: u8) -> isize {
-    x as isize
 }

@@ -9,6 +9,7 @@ use decoding::Reply;
 use hex::after;
 use hex::decode;
 use hex::find;
+use hex::signed;
 use libc::STDIN_FILENO;
 use libc::STDOUT_FILENO;
 ghost use mathlib.Core.Path.{_≡_};
@@ -178,9 +179,4 @@ fn show_bytes(bytes: &[u8]) {
         io::print_hex(STDOUT_FILENO, bytes[i] as u64, 2);
         i += 1;
     }
-}
-
-// A byte as what `io::count` takes.
-fn signed(x: u8) -> isize {
-    x as isize
 }

@@ -21,7 +21,9 @@ add-sums : tie.Need-add-sums
 add-sums c = omega (arith, c .spread .ensures)
 
 -- how far the final sums spread
-the-spread : (c : tie.After-spread) → c .spread .result ≡ spread (sheetOf (c .before .before .before .args .sheet .now)) (constraint (sheetOf (c .before .before .before .args .sheet .now)) (c .before .before .before .args .r)) (length (sheetOf (c .before .before .before .args .sheet .now) .limits))
+the-spread : (c : tie.After-spread) →
+    let at-start = c .before .before .before in
+    c .spread .result ≡ spread (sheetOf (at-start .args .sheet .now)) (constraint (sheetOf (at-start .args .sheet .now)) (at-start .args .r)) (length (sheetOf (at-start .args .sheet .now) .limits))
 the-spread c =
     let at-start = c .before .before .before in
     let s = sheetOf (at-start .args .sheet .now) in

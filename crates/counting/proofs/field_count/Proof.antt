@@ -31,7 +31,10 @@ add-result : tie.Need-add-result
 add-result c = omega (arith, c .not-both-count .ensures)
 
 -- one more than the clauses of the field
-the-product : (c : tie.After-not-both-count) → (c .before .before .before .limit .result * (2 + c .not-both-count .result) ≡ fieldCount (sheetOf (c .before .before .before .before .before .args .sheet .now)) (c .before .before .before .before .before .args .f) + 1) × (c .before .before .before .limit .result * (2 + c .not-both-count .result) ≤ 592)
+the-product : (c : tie.After-not-both-count) →
+    let at-limit = c .before .before .before .limit in
+    let at-start = c .before .before .before .before .before in
+    (at-limit .result * (2 + c .not-both-count .result) ≡ fieldCount (sheetOf (at-start .args .sheet .now)) (at-start .args .f) + 1) × (at-limit .result * (2 + c .not-both-count .result) ≤ 592)
 the-product c =
     let at-limit = c .before .before .before .limit in
     let at-start = c .before .before .before .before .before in

@@ -44,7 +44,9 @@ the-limit c =
     limit-in (sheetOf (at-start .args .sheet .now)) (at-start .pre .0 .1) (at-start .args .r) (at-start .pre .1) (c .most .result) (c .most .ensures)
 
 -- what is asked for, by the numbers at hand
-the-known : (c : tie.After-most) → atMost (c .most .result -ℤ c .before .least .result) (c .before .before .spread .result + 1) ≡ within (sheetOf (c .before .before .before .before .before .args .sheet .now)) (constraint (sheetOf (c .before .before .before .before .before .args .sheet .now)) (c .before .before .before .before .before .args .r))
+the-known : (c : tie.After-most) →
+    let at-start = c .before .before .before .before .before in
+    atMost (c .most .result -ℤ c .before .least .result) (c .before .before .spread .result + 1) ≡ within (sheetOf (at-start .args .sheet .now)) (constraint (sheetOf (at-start .args .sheet .now)) (at-start .args .r))
 the-known c =
     let at-start = c .before .before .before .before .before in
     let at-fields = c .before .before .before .fields in

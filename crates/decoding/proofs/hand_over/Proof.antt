@@ -28,7 +28,9 @@ returns c =
     keeps-all 37 (start .args .buf .now) (decoding-place (sheetOf (start .args .sheet .now)) (truth (start .args .marks .now)) single)
 
 -- every place has one value, no letter stands after a blank, and what is spelled solves the sheet or does not
-ones : (c : tie.Else1) → allSingle (sheetOf (c .before .before .before .before .before .args .sheet .now)) (truth (c .before .before .before .before .before .args .marks .now)) ≡ true
+ones : (c : tie.Else1) →
+    let at-start = c .before .before .before .before .before in
+    allSingle (sheetOf (at-start .args .sheet .now)) (truth (at-start .args .marks .now)) ≡ true
 ones c = sym (c .before .all-pass .ensures) ∙ not-false _ (c .if1 .left)
 
 all-pass-requires-2 : tie.Need-all-pass-requires-2
@@ -40,7 +42,9 @@ returns-2 c =
     let last = sym (c .before .all-pass2 .ensures) ∙ not-true _ (c .if2 .taken) in
     keeps-all 38 (start .args .buf .now) (decoding-blank (sheetOf (start .args .sheet .now)) (truth (start .args .marks .now)) (ones (c .before .before)) last)
 
-lasts : (c : tie.Else2) → noneAfterBlank (sheetOf (c .before .before .before .before .before .before .before .args .sheet .now)) (truth (c .before .before .before .before .before .before .before .args .marks .now)) ≡ true
+lasts : (c : tie.Else2) →
+    let at-start = c .before .before .before .before .before .before .before in
+    noneAfterBlank (sheetOf (at-start .args .sheet .now)) (truth (at-start .args .marks .now)) ≡ true
 lasts c = sym (c .before .all-pass2 .ensures) ∙ not-false _ (c .if2 .left)
 
 spelled-requires : tie.Need-spelled-requires

@@ -65,7 +65,9 @@ codes-requires c κs =
 slice-aggregate-clause-line : tie.Need-slice-aggregate-clause-line
 slice-aggregate-clause-line c = search needs
 
-is-line : (c : tie.After-codes) → codesLine (c .codes .result) ≡ line (sheetOf (c .before .before .before .before .before .args .sheet .now)) (c .before .before .before .before .before .args .n)
+is-line : (c : tie.After-codes) →
+    let at-start = c .before .before .before .before .before in
+    codesLine (c .codes .result) ≡ line (sheetOf (at-start .args .sheet .now)) (at-start .args .n)
 is-line c =
     let at-start = c .before .before .before .before .before in
     let s = sheetOf (at-start .args .sheet .now) in

@@ -11,8 +11,8 @@ use Rattle.engine.proofs.tpl_count.Tie as tie
 count-requires : tie.Need-count-requires
 count-requires c κs = search needs
 
-enum-known-fault : tie.Need-enum-known-fault
-enum-known-fault c = search needs
+enum-known-refusal : tie.Need-enum-known-refusal
+enum-known-refusal c = search needs
 
 number-requires : tie.Need-number-requires
 number-requires c κs = search needs
@@ -26,11 +26,11 @@ enum-known-found c = search needs
 returns : tie.Need-returns
 returns c =
     let at-start = c .before .before .before .before .before .before .before in
-    let at-fault = c .before .before .before .fault in
+    let at-refusal = c .before .before .before .refusal in
     let at-count = c .before .before .before .before .before .count in
     let b = at-start .args .sheet .now in
-    let f = at-fault .given .0 .0 in
-    let e : counting b ≡ refused (numberOf f) = sym (at-count .ensures) ∙ ap counted (at-fault .given .1) in
+    let f = at-refusal .given .0 .0 in
+    let e : counting b ≡ refused (numberOf f) = sym (at-count .ensures) ∙ ap counted (at-refusal .given .1) in
     let n : c .before .number .result ≡ numberOf f = c .before .number .ensures in
     rw (e, c .minus .ensures .0, n) (minus-stored (numberOf f) (rw n at (c .minus .ensures .1)), refl)
 
@@ -48,7 +48,7 @@ tpl-count-spec =
     tie.close
     (tie.spec
     count-requires
-    enum-known-fault
+    enum-known-refusal
     number-requires
     minus-requires
     enum-known-found

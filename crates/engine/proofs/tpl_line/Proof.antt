@@ -24,7 +24,9 @@ enum-known-n : tie.Need-enum-known-n
 enum-known-n c = search needs
 
 -- the answer is a length, of a line that was written
-answers : (c : tie.After-known-told) → sized (writing (c .before .before .before .before .before .before .before .before .before .args .sheet .now) (c .before .before .before .before .before .before .before .before .before .args .line) (length (c .before .before .before .before .before .before .before .before .before .args .text .now))) ≡ finished (c .before .n .given .0 .0 ∷ [])
+answers : (c : tie.After-known-told) →
+    let at-start = c .before .before .before .before .before .before .before .before .before in
+    sized (writing (at-start .args .sheet .now) (at-start .args .line) (length (at-start .args .text .now))) ≡ finished (c .before .n .given .0 .0 ∷ [])
 answers c =
     let at-write-line = c .before .before .before .before .before .write-line in
     sym (at-write-line .ensures .0) ∙ ap lined (c .before .n .given .1)

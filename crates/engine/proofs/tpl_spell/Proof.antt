@@ -24,7 +24,9 @@ enum-known-n : tie.Need-enum-known-n
 enum-known-n c = search needs
 
 -- the answer is a length, of a text that was spelled
-answers : (c : tie.After-known-told) → sized (spelling (c .before .before .before .before .before .before .before .before .before .before .args .sheet .now) (c .before .before .before .before .before .before .before .before .before .before .args .pair) (c .before .before .before .before .before .before .before .before .before .before .args .side) (c .before .before .before .before .before .before .before .before .before .before .args .filling .now) (length (c .before .before .before .before .before .before .before .before .before .before .args .text .now))) ≡ finished (c .before .n .given .0 .0 ∷ [])
+answers : (c : tie.After-known-told) →
+    let at-start = c .before .before .before .before .before .before .before .before .before .before in
+    sized (spelling (at-start .args .sheet .now) (at-start .args .pair) (at-start .args .side) (at-start .args .filling .now) (length (at-start .args .text .now))) ≡ finished (c .before .n .given .0 .0 ∷ [])
 answers c =
     let at-spell = c .before .before .before .before .before .spell in
     sym (at-spell .ensures .0) ∙ ap spelled (c .before .n .given .1)

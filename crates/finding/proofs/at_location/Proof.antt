@@ -1,28 +1,34 @@
 -- `finding::at_location` meets its contract: the table of specs/Count, line by line. Assumes nothing.
 use mathlib.Core.Path.{_≡_, refl, ap, subst, _∙_}
-use Prim.Native.Nat.{ℕ, _-_, _<_}
+use Prim.Native.Nat.{ℕ, _<_}
 use native.Mathlib.Omega.{arith}
 use lib.ListN.{getD}
 use borrow.Author.Needs.{needs}
-use Rattle.formula.specs.Clause.{ClauseId, Left, Match, none}
-use Rattle.formula.specs.Count.{Side, used, atLetter, atField, SideIn, standing, locationCount}
+use Rattle.formula.specs.Clause.{ClauseId, Match, none}
+use Rattle.formula.specs.Count.{Side, used, atLetter, atField, standing, locationCount}
 use Rattle.shape.specs.Bytes.{sideOf}
 use Rattle.counting.proofs.Laws.{says-used, says-letter, says-field}
-use Rattle.finding.proofs.Laws.{right-field, found, found-at, left-first, letters-differ, letter-before, letter-after, letter-any}
+use Rattle.finding.proofs.Laws.{right-field, found, found-at, letters-differ}
 use Rattle.finding.proofs.at_location.Statement.{statement}
 use Rattle.finding.proofs.at_location.Tie as tie
 
 -- a line of the table
-there : (c : tie.Start) → (x y : Side) → sideOf (c .args .u) ≡ x → sideOf (c .args .v) ≡ y → (q : ClauseId) → (c .args .n < locationCount (c .args .l) x y → q ≡ getD (standing (c .args .l) (c .args .p) (c .args .i) (c .args .j) x y) (c .args .n) none) → q ≡ getD (standing (c .args .l) (c .args .p) (c .args .i) (c .args .j) (sideOf (c .args .u)) (sideOf (c .args .v))) (c .args .n) none
+there : (c : tie.Start) →
+    let a = c .args in
+    (x y : Side) → sideOf (a .u) ≡ x → sideOf (a .v) ≡ y → (q : ClauseId) → (a .n < locationCount (a .l) x y → q ≡ getD (standing (a .l) (a .p) (a .i) (a .j) x y) (a .n) none)
+    → q ≡ getD (standing (a .l) (a .p) (a .i) (a .j) (sideOf (a .u)) (sideOf (a .v))) (a .n) none
 there c =
     let a = c .args in
-    found (a .l) (a .p) (a .i) (a .j) (a .u) (a .v) (a .n) (c .pre .3)
+    found (a .l) (a .p) (a .i) (a .j) (sideOf (a .u)) (sideOf (a .v)) (a .n) (c .pre .3)
 
 -- and one by its number
-numbered : (c : tie.Start) → (x y : Side) → sideOf (c .args .u) ≡ x → sideOf (c .args .v) ≡ y → (k : ℕ) → (c .args .n < locationCount (c .args .l) x y → c .args .n ≡ k) → getD (standing (c .args .l) (c .args .p) (c .args .i) (c .args .j) x y) k none ≡ getD (standing (c .args .l) (c .args .p) (c .args .i) (c .args .j) (sideOf (c .args .u)) (sideOf (c .args .v))) (c .args .n) none
+numbered : (c : tie.Start) →
+    let a = c .args in
+    (x y : Side) → sideOf (a .u) ≡ x → sideOf (a .v) ≡ y → (k : ℕ) → (a .n < locationCount (a .l) x y → a .n ≡ k)
+    → getD (standing (a .l) (a .p) (a .i) (a .j) x y) k none ≡ getD (standing (a .l) (a .p) (a .i) (a .j) (sideOf (a .u)) (sideOf (a .v))) (a .n) none
 numbered c =
     let a = c .args in
-    found-at (a .l) (a .p) (a .i) (a .j) (a .u) (a .v) (a .n) (c .pre .3)
+    found-at (a .l) (a .p) (a .i) (a .j) (sideOf (a .u)) (sideOf (a .v)) (a .n) (c .pre .3)
 
 returns : tie.Need-returns
 returns c =
@@ -38,7 +44,7 @@ returns-2 c =
     let at-if1 = c .before .before .if1 in
     let a = at-start .args in
     let left = says-used (a .u) (at-if1 .taken) in
-    let right = right-field (a .l) (a .p) (a .i) (a .j) (a .u) (a .v) (a .n) (at-start .pre .3) left (c .before .if2 .left) in
+    let right = right-field (a .l) (a .u) (a .v) (a .n) (at-start .pre .3) left (c .before .if2 .left) in
     numbered at-start used atField left right 0 (λ few. omega arith)
 
 returns-3 : tie.Need-returns-3
@@ -47,7 +53,7 @@ returns-3 c =
     let at-if1 = c .before .before .if1 in
     let a = at-start .args in
     let left = says-used (a .u) (at-if1 .taken) in
-    let right = right-field (a .l) (a .p) (a .i) (a .j) (a .u) (a .v) (a .n) (at-start .pre .3) left (c .before .if2 .left) in
+    let right = right-field (a .l) (a .u) (a .v) (a .n) (at-start .pre .3) left (c .before .if2 .left) in
     numbered at-start used atField left right 1 (λ few. omega arith)
 
 returns-4 : tie.Need-returns-4
@@ -135,94 +141,21 @@ returns-11 c =
     let right = says-field (a .v) (at-if8 .left) (at-if4 .left) in
     ap (Match (a .p) (a .i) (a .j)) (c .wide2 .ensures .0) ∙ numbered at-start (atLetter (a .u)) atField left right 2 (λ few. omega arith)
 
+at-field-requires : tie.Need-at-field-requires
+at-field-requires c κs =
+    let at-start = c .before .before .before in
+    let at-if1 = c .before .before .if1 in
+    let a = at-start .args in
+    let left = says-field (a .u) (c .if7 .left) (at-if1 .left) in
+    (c .before .if4 .left, at-start .pre .2, subst (λ x. a .n < locationCount (a .l) x (sideOf (a .v))) left (at-start .pre .3))
+
 returns-12 : tie.Need-returns-12
 returns-12 c =
     let at-start = c .before .before .before .before in
     let at-if1 = c .before .before .before .if1 in
     let a = at-start .args in
-    there at-start atField (sideOf (a .v)) (says-field (a .u) (c .before .if7 .left) (at-if1 .left)) refl (Left (a .p) (a .i) (a .j)) (λ few. left-first (a .l) (a .p) (a .i) (a .j) (a .n) (sideOf (a .v)) (c .if12 .taken))
-
-returns-13 : tie.Need-returns-13
-returns-13 c =
-    let at-start = c .before .before .before .before .before .before in
-    let at-if7 = c .before .before .before .if7 in
-    let at-if1 = c .before .before .before .before .before .if1 in
-    let a = at-start .args in
-    let left = says-field (a .u) (at-if7 .left) (at-if1 .left) in
-    let right = says-letter (a .v) (c .before .if13 .taken) in
-    numbered at-start atField (atLetter (a .v)) left right 1 (λ few. omega arith)
-
-sub-if15 : tie.Need-sub-if15
-sub-if15 c = search needs
-
-wide-requires-3 : tie.Need-wide-requires-3
-wide-requires-3 c κs = search needs
-
-sub-t18 : tie.Need-sub-t18
-sub-t18 c = search needs
-
-returns-14 : tie.Need-returns-14
-returns-14 c =
-    let at-start = c .before .before .before .before .before .before .before .before in
-    let at-if7 = c .before .before .before .before .before .if7 in
-    let at-if1 = c .before .before .before .before .before .before .before .if1 in
-    let at-if13 = c .before .before .before .if13 in
-    let a = at-start .args in
-    let left = says-field (a .u) (at-if7 .left) (at-if1 .left) in
-    let right = says-letter (a .v) (at-if13 .taken) in
-    there at-start atField (atLetter (a .v)) left right (Match (a .p) (a .i) (a .j) (a .n - 2)) (λ few. letter-before (a .l) (a .p) (a .i) (a .j) (a .n) (a .v) (omega arith) (omega (arith, c .if15 .taken, c .before .wide3 .ensures)))
-
-sub-t16 : tie.Need-sub-t16
-sub-t16 c = search needs
-
-returns-15 : tie.Need-returns-15
-returns-15 c =
-    let at-start = c .before .before .before .before .before .before .before .before in
-    let at-if7 = c .before .before .before .before .before .if7 in
-    let at-if1 = c .before .before .before .before .before .before .before .if1 in
-    let at-if13 = c .before .before .before .if13 in
-    let a = at-start .args in
-    let left = says-field (a .u) (at-if7 .left) (at-if1 .left) in
-    let right = says-letter (a .v) (at-if13 .taken) in
-    there at-start atField (atLetter (a .v)) left right (Match (a .p) (a .i) (a .j) (a .n - 1)) (λ few. letter-after (a .l) (a .p) (a .i) (a .j) (a .n) (a .v) (omega arith) (omega (arith, c .if15 .left, c .before .wide3 .ensures)) (subst (SideIn (a .l)) right (at-start .pre .2)) few)
-
-returns-16 : tie.Need-returns-16
-returns-16 c =
-    let at-start = c .before .before .before .before .before .before in
-    let at-if7 = c .before .before .before .if7 in
-    let at-if1 = c .before .before .before .before .before .if1 in
-    let at-if4 = c .before .before .before .before .if4 in
-    let a = at-start .args in
-    let left = says-field (a .u) (at-if7 .left) (at-if1 .left) in
-    let right = says-field (a .v) (c .before .if13 .left) (at-if4 .left) in
-    numbered at-start atField atField left right 1 (λ few. omega arith)
-
-returns-17 : tie.Need-returns-17
-returns-17 c =
-    let at-start = c .before .before .before .before .before .before .before in
-    let at-if7 = c .before .before .before .before .if7 in
-    let at-if1 = c .before .before .before .before .before .before .if1 in
-    let at-if13 = c .before .before .if13 in
-    let at-if4 = c .before .before .before .before .before .if4 in
-    let a = at-start .args in
-    let left = says-field (a .u) (at-if7 .left) (at-if1 .left) in
-    let right = says-field (a .v) (at-if13 .left) (at-if4 .left) in
-    numbered at-start atField atField left right 2 (λ few. omega arith)
-
-sub-t19 : tie.Need-sub-t19
-sub-t19 c = search needs
-
-returns-18 : tie.Need-returns-18
-returns-18 c =
-    let at-start = c .before .before .before .before .before .before .before in
-    let at-if7 = c .before .before .before .before .if7 in
-    let at-if1 = c .before .before .before .before .before .before .if1 in
-    let at-if13 = c .before .before .if13 in
-    let at-if4 = c .before .before .before .before .before .if4 in
-    let a = at-start .args in
-    let left = says-field (a .u) (at-if7 .left) (at-if1 .left) in
-    let right = says-field (a .v) (at-if13 .left) (at-if4 .left) in
-    there at-start atField atField left right (Match (a .p) (a .i) (a .j) (a .n - 3)) (λ few. letter-any (a .l) (a .p) (a .i) (a .j) (a .n) (omega arith) few)
+    let left = says-field (a .u) (c .before .if7 .left) (at-if1 .left) in
+    there at-start atField (sideOf (a .v)) left refl _ (λ few. c .at-field .ensures)
 
 pub at-location-spec : {M : Type 1} → statement M
 at-location-spec =
@@ -241,15 +174,5 @@ at-location-spec =
     returns-10
     wide-requires-2
     returns-11
-    returns-12
-    returns-13
-    sub-if15
-    wide-requires-3
-    sub-t18
-    returns-14
-    sub-t16
-    returns-15
-    returns-16
-    returns-17
-    sub-t19
-    returns-18)
+    at-field-requires
+    returns-12)

@@ -75,7 +75,9 @@ row-count-requires c κs =
     (omega (arith, at-letters .ensures, letters-few s (at-start .pre .0 .1)), at-width2 .ensures .1)
 
 -- how many clauses the row has
-the-size : (c : tie.After-row-count Inv-loop μ-loop) → c .row-count .result ≡ rowCount (sheetOf (c .before .before .before .before .before .before .before .before .before .before .args .sheet .now)) (c .before .before .before .before .before .before .before .before .before .before .args .p) (c .before .before .loop .i)
+the-size : (c : tie.After-row-count Inv-loop μ-loop) →
+    let at-start = c .before .before .before .before .before .before .before .before .before .before in
+    c .row-count .result ≡ rowCount (sheetOf (at-start .args .sheet .now)) (at-start .args .p) (c .before .before .loop .i)
 the-size c =
     let at-start = c .before .before .before .before .before .before .before .before .before .before in
     let at-loop = c .before .before .loop in

@@ -45,7 +45,9 @@ location-count-requires c κs =
     omega (arith, at-letters .ensures, letters-few s (at-start .pre .0 .1))
 
 -- how many clauses the location has
-the-size : (c : tie.After-location-count Inv-loop μ-loop) → c .location-count .result ≡ locationSize (sheetOf (c .before .before .before .before .before .before .args .sheet .now)) (c .before .before .before .before .before .before .args .p) (c .before .before .before .before .before .before .args .i) (c .before .before .loop .j)
+the-size : (c : tie.After-location-count Inv-loop μ-loop) →
+    let at-start = c .before .before .before .before .before .before in
+    c .location-count .result ≡ locationSize (sheetOf (at-start .args .sheet .now)) (at-start .args .p) (at-start .args .i) (c .before .before .loop .j)
 the-size c =
     let at-start = c .before .before .before .before .before .before in
     let at-letters = c .before .before .before .before .letters in

@@ -36,12 +36,16 @@ short c =
     let one = template-short (at-start .args .sheet .now) (at-start .pre .0) (at-start .args .p) (at-start .pre .1) in
     (one 0 (c .before .template .result .now) (c .before .template .ensures), one 1 (c .template2 .result .now) (c .template2 .ensures))
 
-left-is : (c : tie.After-template2) → map symbolOf (c .before .template .result .now) ≡ equation (sheetOf (c .before .before .before .before .before .args .sheet .now)) (c .before .before .before .before .before .args .p) .left
+left-is : (c : tie.After-template2) →
+    let at-start = c .before .before .before .before .before in
+    map symbolOf (c .before .template .result .now) ≡ equation (sheetOf (at-start .args .sheet .now)) (at-start .args .p) .left
 left-is c =
     let at-start = c .before .before .before .before .before in
     symbols-are (at-start .args .sheet .now) (at-start .pre .0) (at-start .args .p) (at-start .pre .1) 0 (c .before .template .result .now) (c .before .template .ensures)
 
-right-is : (c : tie.After-template2) → map symbolOf (c .template2 .result .now) ≡ equation (sheetOf (c .before .before .before .before .before .args .sheet .now)) (c .before .before .before .before .before .args .p) .right
+right-is : (c : tie.After-template2) →
+    let at-start = c .before .before .before .before .before in
+    map symbolOf (c .template2 .result .now) ≡ equation (sheetOf (at-start .args .sheet .now)) (at-start .args .p) .right
 right-is c =
     let at-start = c .before .before .before .before .before in
     symbols-are (at-start .args .sheet .now) (at-start .pre .0) (at-start .args .p) (at-start .pre .1) 1 (c .template2 .result .now) (c .template2 .ensures)

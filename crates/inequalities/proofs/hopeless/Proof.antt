@@ -35,7 +35,9 @@ side-sum-requires-2 : tie.Need-side-sum-requires-2 Inv-loop μ-loop
 side-sum-requires-2 c κs = omega (arith, c .before .before .before .before .pre)
 
 -- row i is hopeless by the test that the code makes
-here : (c : tie.After-side-sum2 Inv-loop μ-loop) → hopelessRow (drop (14 * c .before .before .before .loop .i) (c .before .before .before .before .before .args .rows .now)) (c .before .before .before .before .before .args .lo) (c .before .before .before .before .before .args .hi) ≡ ltb (c .before .side-sum .result) (c .side-sum2 .result)
+here : (c : tie.After-side-sum2 Inv-loop μ-loop) →
+    let at-start = c .before .before .before .before .before in
+    hopelessRow (drop (14 * c .before .before .before .loop .i) (at-start .args .rows .now)) (at-start .args .lo) (at-start .args .hi) ≡ ltb (c .before .side-sum .result) (c .side-sum2 .result)
 here c =
     let a = c .before .before .before .before .before .args in
     row-at (a .rows .now) (14 * c .before .before .before .loop .i) (a .lo) (a .hi)

@@ -8,8 +8,7 @@ use Rattle.model.specs.Sheet.{sheetOf, template, symbolOf}
 use Rattle.model.specs.Word.{spell, equationHolds}
 use Rattle.model.proofs.Words.{same-word}
 use Rattle.model.proofs.Seams.{front-is, front-fits, front-length}
-use Rattle.fields.specs.Memory.{textsOf}
-use Rattle.fields.specs.Memory.{meaning}
+use Rattle.fields.specs.Memory.{textsOf, meaning}
 use Rattle.judge.proofs.Meaning.{word-is, can-spell}
 use Rattle.judge.proofs.equation_holds.Statement.{statement}
 use Rattle.judge.proofs.equation_holds.Tie as tie

@@ -67,7 +67,9 @@ coefficient-requires c κs =
 
 -- the sum over so many fields
 abbrev sum-of : (c : tie.After-coefficient Inv-loop μ-loop) → ℕ → ℤ
-sum-of c = weight (constraint (sheetOf (c .before .before .before .before .before .before .args .sheet .now)) (c .before .before .before .before .before .before .args .r)) (meaning (c .before .before .before .before .before .before .args .sheet .now) (c .before .before .before .before .before .before .args .t3))
+sum-of c =
+    let at-start = c .before .before .before .before .before .before in
+    weight (constraint (sheetOf (at-start .args .sheet .now)) (at-start .args .r)) (meaning (at-start .args .sheet .now) (at-start .args .t3))
 
 sum-fits : (c : tie.After-coefficient Inv-loop μ-loop) → (k : ℕ) → k ≤ length (sheetOf (c .before .before .before .before .before .before .args .sheet .now) .limits) → natAbs (sum-of c k) ≤ 192
 sum-fits c =

@@ -2,7 +2,6 @@
 use mathlib.Core.List.{List}
 use Prim.Native.Nat.{ℕ, _+_, _*_, _-_, _≤_}
 use native.Mathlib.Omega.{arith}
-use borrow.Author.Needs.{needs}
 use Rattle.unification.specs.declared.Found.{Found}
 use Rattle.attempt.specs.Attempt.{equations}
 use Rattle.lengths.specs.Lengths.{NoneBelow, tryOf}

@@ -1,6 +1,6 @@
 -- `literals::left` meets its contract. Assumes nothing.
 use mathlib.Core.Path.{_≡_, refl, ap, _∙_}
-use Prim.Native.Nat.{suc, _+_, _*_}
+use Prim.Native.Nat.{suc, _+_, _*_, _≤_}
 use native.Mathlib.Omega.{arith}
 use Rattle.model.specs.Sheet.{sheetOf}
 use Rattle.formula.specs.Clause.{S, terms, leftCells, rightCells}
@@ -10,18 +10,22 @@ use Rattle.literals.proofs.Laws.{same-nine, blank-code, not-blank-code,
 use Rattle.literals.proofs.left.Statement.{statement}
 use Rattle.literals.proofs.left.Tie as tie
 
+-- a side has few cells
+few : (c : tie.Start) → (c .args .i ≤ 24) × (c .args .j ≤ 24)
+few c = location-few (sheetOf (c .args .sheet .now)) (c .pre .0 .1) (c .args .p) (c .args .i) (c .args .j) (c .pre .1 .0)
+
 location-code-requires : tie.Need-location-code-requires
 location-code-requires c κs = (c .before .pre .0, c .before .pre .1 .0, omega arith)
 
 blank-code-requires : tie.Need-blank-code-requires
 blank-code-requires c κs =
     let at-start = c .before .before in
-    (at-start .pre .0, at-start .pre .1 .0 .0, omega (arith, location-few (sheetOf (at-start .args .sheet .now)) (at-start .pre .0 .1) (at-start .args .p) (at-start .args .i) (at-start .args .j) (at-start .pre .1 .0)), omega arith)
+    (at-start .pre .0, at-start .pre .1 .0 .0, omega (arith, few at-start), omega arith)
 
 add-location-code : tie.Need-add-location-code
 add-location-code c =
     let at-start = c .before .before .before in
-    omega (arith, location-few (sheetOf (at-start .args .sheet .now)) (at-start .pre .0 .1) (at-start .args .p) (at-start .args .i) (at-start .args .j) (at-start .pre .1 .0))
+    omega (arith, few at-start)
 
 location-code-requires-2 : tie.Need-location-code-requires-2
 location-code-requires-2 c κs =

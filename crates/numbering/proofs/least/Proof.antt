@@ -2,7 +2,7 @@
 use mathlib.Core.Path.{_≡_, refl, sym, ap, _∙_}
 use Prim.Native.Nat.{_+_, _-_, _≤_}
 use native.Mathlib.Omega.{arith}
-use lib.IntN.{ℤ, natAbs, _+ℤ_}
+use lib.IntN.{natAbs, _+ℤ_}
 use mir.Syntax.{w8, w16}
 use mir.Val.{toZ, ofZ}
 use Rattle.model.specs.Sheet.{sheetOf, constraint, coefficient, limit}
@@ -44,7 +44,10 @@ lowest-requires : tie.Need-lowest-requires Inv-loop μ-loop
 lowest-requires c κs = (rw (small-back w8 (c .before .coefficient .result) (omega (arith, small (c .before)))) (small (c .before)), c .limit .ensures .1)
 
 -- the next sum, as the machine has it
-next : (c : tie.After-lowest Inv-loop μ-loop) → toZ w16 (c .before .before .before .before .loop .sum) +ℤ toZ w16 (ofZ w16 (c .lowest .result)) ≡ least (sheetOf (c .before .before .before .before .before .before .args .sheet .now)) (constraint (sheetOf (c .before .before .before .before .before .before .args .sheet .now)) (c .before .before .before .before .before .before .args .r)) (c .before .before .before .before .loop .f + 1)
+next : (c : tie.After-lowest Inv-loop μ-loop) →
+    let at-loop = c .before .before .before .before .loop in
+    let at-start = c .before .before .before .before .before .before in
+    toZ w16 (at-loop .sum) +ℤ toZ w16 (ofZ w16 (c .lowest .result)) ≡ least (sheetOf (at-start .args .sheet .now)) (constraint (sheetOf (at-start .args .sheet .now)) (at-start .args .r)) (at-loop .f + 1)
 next c =
     let at-start = c .before .before .before .before .before .before in
     let at-loop = c .before .before .before .before .loop in

@@ -4,7 +4,7 @@ use Prim.Native.Nat.{_+_, _-_, _≤_}
 use native.Mathlib.Omega.{arith}
 use Rattle.model.specs.Lists.{total}
 use Rattle.model.specs.Sheet.{sheetOf}
-use Rattle.formula.specs.Count.{parts, variableCounts}
+use Rattle.formula.specs.Count.{variableCounts}
 use Rattle.model.proofs.Keeping.{total-more}
 use Rattle.formula.proofs.Small.{parts-few, variables-part}
 use Rattle.shape.specs.Name.{sectionOf}
@@ -27,7 +27,9 @@ part-size-requires c κs =
     (at-start .pre .0, omega (arith, at-start .pre .1))
 
 -- the next sum
-next : (c : tie.After-part-size Inv-loop μ-loop) → c .before .before .loop .sum + c .part-size .result ≡ total (c .before .before .loop .i + 1) (variableCounts (sheetOf (c .before .before .before .before .args .sheet .now)) (sectionOf (c .before .before .before .before .args .section)))
+next : (c : tie.After-part-size Inv-loop μ-loop) →
+    let at-start = c .before .before .before .before in
+    c .before .before .loop .sum + c .part-size .result ≡ total (c .before .before .loop .i + 1) (variableCounts (sheetOf (at-start .args .sheet .now)) (sectionOf (at-start .args .section)))
 next c =
     let at-start = c .before .before .before .before in
     let at-loop = c .before .before .loop in

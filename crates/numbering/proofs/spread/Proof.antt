@@ -44,7 +44,10 @@ limit-requires c κs =
     (at-start .pre .0, omega (arith, at-start .pre .2))
 
 -- the product that is added
-term : (c : tie.After-limit Inv-loop μ-loop) → (c .before .magnitude .result * c .limit .result ≤ 32) × (c .before .magnitude .result * c .limit .result ≡ natAbs (coefficient (constraint (sheetOf (c .before .before .before .before .before .before .args .sheet .now)) (c .before .before .before .before .before .before .args .r)) (c .before .before .before .before .loop .f)) * limit (sheetOf (c .before .before .before .before .before .before .args .sheet .now)) (c .before .before .before .before .loop .f))
+term : (c : tie.After-limit Inv-loop μ-loop) →
+    let at-start = c .before .before .before .before .before .before in
+    let at-loop = c .before .before .before .before .loop in
+    (c .before .magnitude .result * c .limit .result ≤ 32) × (c .before .magnitude .result * c .limit .result ≡ natAbs (coefficient (constraint (sheetOf (at-start .args .sheet .now)) (at-start .args .r)) (at-loop .f)) * limit (sheetOf (at-start .args .sheet .now)) (at-loop .f))
 term c =
     let at-start = c .before .before .before .before .before .before in
     let at-coefficient = c .before .before .coefficient in

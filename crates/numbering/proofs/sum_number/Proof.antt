@@ -67,7 +67,12 @@ add-result-4 c =
     omega (arith, at-whole .ensures .1, at-whole2 .ensures .1, c .before .parts-before .ensures .1, c .sums-before .ensures .1)
 
 -- the number, as the machine has it
-is : (c : tie.After-sums-before) → (1 + c .before .before .before .whole .result + c .before .before .whole2 .result + c .before .parts-before .result + c .sums-before .result + natAbs (toZ w16 (ofZ w16 (toZ w16 (ofZ w16 (c .before .before .before .before .before .before .args .s)) -ℤ toZ w16 (ofZ w16 (c .before .before .before .before .least .result))))) ≡ number (sheetOf (c .before .before .before .before .before .before .args .sheet .now)) (T (c .before .before .before .before .before .before .args .r) (c .before .before .before .before .before .before .args .k) (c .before .before .before .before .before .before .args .s))) × (1 + c .before .before .before .whole .result + c .before .before .whole2 .result + c .before .parts-before .result + c .sums-before .result + natAbs (toZ w16 (ofZ w16 (toZ w16 (ofZ w16 (c .before .before .before .before .before .before .args .s)) -ℤ toZ w16 (ofZ w16 (c .before .before .before .before .least .result))))) ≤ 5648)
+is : (c : tie.After-sums-before) →
+    let at-whole = c .before .before .before .whole in
+    let at-start = c .before .before .before .before .before .before in
+    let at-least = c .before .before .before .before .least in
+    let n = 1 + at-whole .result + c .before .before .whole2 .result + c .before .parts-before .result + c .sums-before .result + natAbs (toZ w16 (ofZ w16 (toZ w16 (ofZ w16 (at-start .args .s)) -ℤ toZ w16 (ofZ w16 (at-least .result))))) in
+    (n ≡ number (sheetOf (at-start .args .sheet .now)) (T (at-start .args .r) (at-start .args .k) (at-start .args .s))) × (n ≤ 5648)
 unfolding number
 is c =
     let at-start = c .before .before .before .before .before .before in

@@ -27,7 +27,9 @@ spread-requires c κs =
     (at-start .pre .0, at-start .pre .1, omega (arith, at-start .pre .2))
 
 -- the next sum
-next : (c : tie.After-spread Inv-loop μ-loop) → c .before .before .loop .sum + c .spread .result + 1 ≡ total (c .before .before .loop .i + 1) (rowSize (sheetOf (c .before .before .before .before .args .sheet .now)) (c .before .before .before .before .args .r))
+next : (c : tie.After-spread Inv-loop μ-loop) →
+    let at-start = c .before .before .before .before in
+    c .before .before .loop .sum + c .spread .result + 1 ≡ total (c .before .before .loop .i + 1) (rowSize (sheetOf (at-start .args .sheet .now)) (at-start .args .r))
 next c =
     let at-start = c .before .before .before .before in
     let at-loop = c .before .before .loop in

@@ -2,12 +2,11 @@
 -- that their number gives. Assumes nothing.
 use mathlib.Core.Path.{sym}
 use mathlib.Core.Logic.{⊎-elim}
-use Prim.Native.Nat.{_-_, _≤_}
+use Prim.Native.Nat.{_-_, _<_, _≤_}
 use native.Mathlib.Omega.{arith}
 use lib.ListN.{length, getD}
 use borrow.Author.Tests.{ltb-true, ltb-false}
-use Rattle.numerals.proofs.Digits.{ten-most, Summed, summed-none, summed-more}
-use Rattle.numerals.proofs.Digits.{valued-empty, valued-long, valued-nought, valued-below, valued-past, valued-sum}
+use Rattle.numerals.proofs.Digits.{ten-most, Summed, summed-none, summed-more, valued-empty, valued-long, valued-nought, valued-below, valued-past, valued-sum}
 use Rattle.numerals.proofs.value.Statement.{statement}
 use Rattle.numerals.proofs.value.Tie as tie
 
@@ -52,26 +51,26 @@ returns-3 c =
     sym (valued-past ds (at-loop .i) (at-loop .sum) (at-loop .inv .1) (omega arith) (omega arith) (omega arith) high))
     (c .if4 .came)
 
-mul-sum : tie.Need-mul-sum Inv-loop μ-loop
-mul-sum c =
+-- the sum is below a bound, and the byte is at most the last figure
+small : (c : tie.Else5 Inv-loop μ-loop) →
+    let at-loop = c .before .before .before .before .loop in
+    let ds = c .before .before .before .before .before .before .before .before .before .args .digits .now in
+    (at-loop .sum < 100000000) × (getD ds (at-loop .i) 0 ≤ 57)
+small c =
     let at-loop = c .before .before .before .before .loop in
     let ds = c .before .before .before .before .before .before .before .before .before .args .digits .now in
     let few = ltb-false 9 (length ds) (c .before .before .before .before .before .before .before .if2 .left) in
-    let high = ltb-false 57 (getD ds (at-loop .i) 0) (c .if5 .left) in
     let b = at-loop .inv .1 .small in
-    omega (arith, ten-most (at-loop .i) (omega arith))
+    (omega (arith, ten-most (at-loop .i) (omega arith)), ltb-false 57 (getD ds (at-loop .i) 0) (c .if5 .left))
+
+mul-sum : tie.Need-mul-sum Inv-loop μ-loop
+mul-sum c = omega (arith, small c)
 
 cast-sum : tie.Need-cast-sum Inv-loop μ-loop
 cast-sum c = omega (arith, c .before .before .shared-slice-known2 .given (c .before .before .before .before .loop .i))
 
 add-sum : tie.Need-add-sum Inv-loop μ-loop
-add-sum c =
-    let at-loop = c .before .before .before .before .loop in
-    let ds = c .before .before .before .before .before .before .before .before .before .args .digits .now in
-    let few = ltb-false 9 (length ds) (c .before .before .before .before .before .before .before .if2 .left) in
-    let high = ltb-false 57 (getD ds (at-loop .i) 0) (c .if5 .left) in
-    let b = at-loop .inv .1 .small in
-    omega (arith, ten-most (at-loop .i) (omega arith))
+add-sum c = omega (arith, small c)
 
 add-i : tie.Need-add-i Inv-loop μ-loop
 add-i c = omega arith

@@ -7,8 +7,8 @@ use lib.ListN.{length}
 use Rattle.model.specs.Lists.{each, Holds}
 use Rattle.model.specs.Sheet.{sheetOf, encodeConstraint, constraint}
 use Rattle.model.proofs.Known.{accepted-counts, accepted-in-range}
-use Rattle.model.proofs.Places.{header-fits, field-count-at, equation-count-at, past-equations, this-constraint}
-use Rattle.parts.proofs.Known.{lent-bytes}
+use Rattle.model.proofs.Places.{field-count-at, equation-count-at, past-equations, this-constraint}
+use Rattle.parts.proofs.Known.{lent-bytes, header-there}
 use borrow.Author.Needs.{needs}
 use Rattle.parts.proofs.constraint_at.Statement.{statement}
 use Rattle.parts.proofs.constraint_at.Tie as tie
@@ -16,12 +16,7 @@ use Rattle.parts.proofs.constraint_at.Tie as tie
 shared-slice-read-wide : tie.Need-shared-slice-read-wide
 shared-slice-read-wide c =
     let at-start = c .before .before in
-    let b = at-start .args .sheet .now in
-    let y = lent-bytes b (c .before .shared-slice-known .given) in
-    let ok = at-start .pre .0 in
-    let s = sheetOf b in
-    let h = header-fits b y ok in
-    omega arith
+    omega (arith, header-there (at-start .args .sheet .now) (c .before .shared-slice-known .given) (at-start .pre .0))
 
 wide-requires : tie.Need-wide-requires
 wide-requires c κs = search needs
@@ -30,18 +25,15 @@ shared-slice-read-wide-2 : tie.Need-shared-slice-read-wide-2
 shared-slice-read-wide-2 c =
     let at-start = c .before .before .before .before in
     let at-shared-slice-known = c .before .before .before .shared-slice-known in
-    let b = at-start .args .sheet .now in
-    let y = lent-bytes b (at-shared-slice-known .given) in
-    let ok = at-start .pre .0 in
-    let s = sheetOf b in
-    let h = header-fits b y ok in
-    omega arith
+    omega (arith, header-there (at-start .args .sheet .now) (at-shared-slice-known .given) (at-start .pre .0))
 
 wide-requires-2 : tie.Need-wide-requires-2
 wide-requires-2 c κs = search needs
 
 -- the constraint stands there
-there : (c : tie.After-entry-at) → Holds (c .before .before .before .before .before .before .args .sheet .now) (c .entry-at .result + c .before .before .before .before .before .before .args .r * (c .before .before .before .wide .result + 2)) (encodeConstraint (constraint (sheetOf (c .before .before .before .before .before .before .args .sheet .now)) (c .before .before .before .before .before .before .args .r)))
+there : (c : tie.After-entry-at) →
+    let at-start = c .before .before .before .before .before .before in
+    Holds (at-start .args .sheet .now) (c .entry-at .result + at-start .args .r * (c .before .before .before .wide .result + 2)) (encodeConstraint (constraint (sheetOf (at-start .args .sheet .now)) (at-start .args .r)))
 there c =
     let at-start = c .before .before .before .before .before .before in
     let at-wide = c .before .before .before .wide in
@@ -63,7 +55,6 @@ entry-at-requires c κs =
     let b = at-start .args .sheet .now in
     let y = lent-bytes b (at-shared-slice-known .given) in
     let ok = at-start .pre .0 in
-    let s = sheetOf b in
     let q = equation-count-at b y ok in
     (at-start .pre .0, omega (arith, c .wide2 .ensures .0))
 
@@ -78,7 +69,6 @@ mul-result c =
     let b = at-start .args .sheet .now in
     let y = lent-bytes b (at-shared-slice-known .given) in
     let ok = at-start .pre .0 in
-    let s = sheetOf b in
     let v = field-count-at b y ok in
     let w = at-wide .ensures .0 in
     let n = accepted-counts b ok in

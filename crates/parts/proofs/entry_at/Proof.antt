@@ -7,8 +7,8 @@ use borrow.Author.Needs.{needs}
 use lib.ListN.{length, drop}
 use Rattle.model.specs.Lists.{each, Holds}
 use Rattle.model.specs.Sheet.{sheetOf, encodeEquation, encodeConstraint, equation}
-use Rattle.model.proofs.Places.{EquationAt, header-fits, letter-count-at, field-count-at, holds-from, holds-entries, this-equation, next-equation}
-use Rattle.parts.proofs.Known.{lent-bytes}
+use Rattle.model.proofs.Places.{EquationAt, letter-count-at, field-count-at, holds-from, holds-entries, this-equation, next-equation}
+use Rattle.parts.proofs.Known.{lent-bytes, header-there}
 use Rattle.parts.proofs.entry_at.Statement.{statement}
 use Rattle.parts.proofs.entry_at.Tie as tie
 
@@ -21,11 +21,7 @@ abbrev μ-loop : tie.MeasureT-loop
 shared-slice-read-wide : tie.Need-shared-slice-read-wide Inv-loop μ-loop
 shared-slice-read-wide c =
     let at-start = c .before .before in
-    let b = at-start .args .sheet .now in
-    let y = lent-bytes b (c .before .shared-slice-known .given) in
-    let ok = at-start .pre .0 in
-    let h = header-fits b y ok in
-    omega arith
+    omega (arith, header-there (at-start .args .sheet .now) (c .before .shared-slice-known .given) (at-start .pre .0))
 
 wide-requires : tie.Need-wide-requires Inv-loop μ-loop
 wide-requires c κs = search needs
@@ -34,11 +30,7 @@ shared-slice-read-wide-2 : tie.Need-shared-slice-read-wide-2 Inv-loop μ-loop
 shared-slice-read-wide-2 c =
     let at-start = c .before .before .before .before in
     let at-shared-slice-known = c .before .before .before .shared-slice-known in
-    let b = at-start .args .sheet .now in
-    let y = lent-bytes b (at-shared-slice-known .given) in
-    let ok = at-start .pre .0 in
-    let h = header-fits b y ok in
-    omega arith
+    omega (arith, header-there (at-start .args .sheet .now) (at-shared-slice-known .given) (at-start .pre .0))
 
 wide-requires-2 : tie.Need-wide-requires-2 Inv-loop μ-loop
 wide-requires-2 c κs = search needs
@@ -63,7 +55,9 @@ loop-holds c =
     (omega arith, holds-from n (holds-entries b y ok))
 
 -- the equation at hand, in a turn of the loop
-this : (c : tie.In-loop Inv-loop μ-loop) → EquationAt (c .before .before .before .before .before .before .before .args .sheet .now) (c .before .loop .at) (equation (sheetOf (c .before .before .before .before .before .before .before .args .sheet .now)) (c .before .loop .i))
+this : (c : tie.In-loop Inv-loop μ-loop) →
+    let at-start = c .before .before .before .before .before .before .before in
+    EquationAt (at-start .args .sheet .now) (c .before .loop .at) (equation (sheetOf (at-start .args .sheet .now)) (c .before .loop .i))
 this c =
     let at-start = c .before .before .before .before .before .before .before in
     let s = sheetOf (at-start .args .sheet .now) in

@@ -5,8 +5,8 @@ use native.Mathlib.Omega.{arith}
 use lib.ListN.{length}
 use Rattle.model.specs.Lists.{Holds}
 use Rattle.model.specs.Sheet.{sheetOf}
-use Rattle.parts.proofs.Known.{lent-bytes}
-use Rattle.model.proofs.Places.{header-fits, letter-count-at, holds-at, holds-fits, holds-from, holds-limits}
+use Rattle.parts.proofs.Known.{lent-bytes, header-there}
+use Rattle.model.proofs.Places.{letter-count-at, holds-at, holds-fits, holds-from, holds-limits}
 use borrow.Author.Needs.{needs}
 use Rattle.parts.proofs.limit.Statement.{statement}
 use Rattle.parts.proofs.limit.Tie as tie
@@ -14,11 +14,7 @@ use Rattle.parts.proofs.limit.Tie as tie
 shared-slice-read-wide : tie.Need-shared-slice-read-wide
 shared-slice-read-wide c =
     let at-start = c .before .before in
-    let b = at-start .args .sheet .now in
-    let y = lent-bytes b (c .before .shared-slice-known .given) in
-    let ok = at-start .pre .0 in
-    let h = header-fits b y ok in
-    omega arith
+    omega (arith, header-there (at-start .args .sheet .now) (c .before .shared-slice-known .given) (at-start .pre .0))
 
 wide-requires : tie.Need-wide-requires
 wide-requires c κs = search needs
@@ -27,7 +23,9 @@ add-result : tie.Need-add-result
 add-result c = search needs
 
 -- the limits stand there
-there : (c : tie.After-wide) → Holds (c .before .before .before .args .sheet .now) (9 + c .wide .result) (sheetOf (c .before .before .before .args .sheet .now) .limits)
+there : (c : tie.After-wide) →
+    let at-start = c .before .before .before in
+    Holds (at-start .args .sheet .now) (9 + c .wide .result) (sheetOf (at-start .args .sheet .now) .limits)
 there c =
     let at-start = c .before .before .before in
     let b = at-start .args .sheet .now in

@@ -5,9 +5,9 @@ use native.Mathlib.Omega.{arith}
 use lib.ListN.{length, getD}
 use mir.Syntax.{w16}
 use Rattle.model.specs.Sheet.{sheetOf, constraint, sixteen, signed16}
-use Rattle.model.proofs.Places.{header-fits, field-count-at, ConstraintAt, constraint-in, constraint-at}
+use Rattle.model.proofs.Places.{field-count-at, ConstraintAt, constraint-in, constraint-at}
 use Rattle.scan.proofs.Machine.{stored}
-use Rattle.parts.proofs.Known.{lent-bytes}
+use Rattle.parts.proofs.Known.{lent-bytes, header-there}
 use borrow.Author.Needs.{needs}
 use Rattle.parts.proofs.most.Statement.{statement}
 use Rattle.parts.proofs.most.Tie as tie
@@ -15,12 +15,7 @@ use Rattle.parts.proofs.most.Tie as tie
 shared-slice-read-wide : tie.Need-shared-slice-read-wide
 shared-slice-read-wide c =
     let at-start = c .before .before in
-    let b = at-start .args .sheet .now in
-    let y = lent-bytes b (c .before .shared-slice-known .given) in
-    let ok = at-start .pre .0 in
-    let s = sheetOf b in
-    let h = header-fits b y ok in
-    omega arith
+    omega (arith, header-there (at-start .args .sheet .now) (c .before .shared-slice-known .given) (at-start .pre .0))
 
 wide-requires : tie.Need-wide-requires
 wide-requires c κs = search needs
@@ -36,7 +31,9 @@ fields c =
     c .wide .ensures .0 ∙ field-count-at b (lent-bytes b (c .before .before .shared-slice-known .given)) (at-start .pre .0)
 
 -- the constraint at the offset
-there : (c : tie.After-constraint-at) → ConstraintAt (length (sheetOf (c .before .before .before .before .args .sheet .now) .limits)) (c .before .before .before .before .args .sheet .now) (c .constraint-at .result) (constraint (sheetOf (c .before .before .before .before .args .sheet .now)) (c .before .before .before .before .args .r))
+there : (c : tie.After-constraint-at) →
+    let at-start = c .before .before .before .before in
+    ConstraintAt (length (sheetOf (at-start .args .sheet .now) .limits)) (at-start .args .sheet .now) (c .constraint-at .result) (constraint (sheetOf (at-start .args .sheet .now)) (at-start .args .r))
 there c =
     let at-start = c .before .before .before .before in
     let b = at-start .args .sheet .now in

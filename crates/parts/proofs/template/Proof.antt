@@ -45,10 +45,11 @@ stretch-requires c κs = omega (arith, this (c .before .before .before .before .
 
 returns : tie.Need-returns
 returns c =
+    let at-wide = c .before .before .before .before .wide in
     let a = c .before .before .before .before .before .before .before .before .args in
     let t = this (c .before .before .before .before .before .before) in
     let left = equation (sheetOf (a .sheet .now)) (a .p) .left in
-    let size : c .before .before .before .before .wide .result ≡ length (map symbolByte left) = c .before .before .before .before .wide .ensures .0 ∙ t .left-count ∙ sym (length-map left symbolByte) in
+    let size : at-wide .result ≡ length (map symbolByte left) = at-wide .ensures .0 ∙ t .left-count ∙ sym (length-map left symbolByte) in
     let from = c .before .before .before .before .before .before .entry-at .result + 2 in
     rw (eq-eqb (a .side) 0 (c .before .if1 .taken))
     (c .stretch .ensures ∙ ap (λ n. take n (drop from (a .sheet .now))) size ∙ holds-take (map symbolByte left) (t .holds-left))
@@ -64,14 +65,16 @@ stretch-requires-2 c κs = omega (arith, this (c .before .before .before .before
 
 returns-2 : tie.Need-returns-2
 returns-2 c =
+    let at-entry-at = c .before .before .before .before .before .before .entry-at in
+    let at-wide = c .before .before .before .before .wide in
     let a = c .before .before .before .before .before .before .before .before .args in
     let t = this (c .before .before .before .before .before .before) in
     let e = equation (sheetOf (a .sheet .now)) (a .p) in
     let size : c .before .before .wide2 .result ≡ length (map symbolByte (e .right)) = c .before .before .wide2 .ensures .0 ∙ t .right-count ∙ sym (length-map (e .right) symbolByte) in
-    let from : c .before .before .before .before .before .before .entry-at .result + 2 + c .before .before .before .before .wide .result ≡ c .before .before .before .before .before .before .entry-at .result + 2 + length (e .left) = omega (arith, c .before .before .before .before .wide .ensures .0, t .left-count) in
+    let from : at-entry-at .result + 2 + at-wide .result ≡ at-entry-at .result + 2 + length (e .left) = omega (arith, at-wide .ensures .0, t .left-count) in
     rw (ne-eqb (a .side) 0 (c .before .if1 .left))
     (c .stretch2 .ensures
-    ∙ ap (λ n. take n (drop (c .before .before .before .before .before .before .entry-at .result + 2 + c .before .before .before .before .wide .result) (a .sheet .now))) size
+    ∙ ap (λ n. take n (drop (at-entry-at .result + 2 + at-wide .result) (a .sheet .now))) size
     ∙ ap (λ k. take (length (map symbolByte (e .right))) (drop k (a .sheet .now))) from
     ∙ holds-take (map symbolByte (e .right)) (t .holds-right))
 

@@ -1,46 +1,34 @@
 -- `rendering::longer` meets its contract. Assumes nothing.
-use Prim.Native.Nat.{_≤_}
+use Prim.Native.Nat.{_*_, _≤_}
 use native.Mathlib.Omega.{arith}
 use native.Mathlib.Nat.{mul-le-mul}
 use borrow.Author.Tests.{lt-ltb, le-ltb}
+use Rattle.locations.specs.Codes.{mostCode}
 use Rattle.rendering.proofs.longer.Statement.{statement}
 use Rattle.rendering.proofs.longer.Tie as tie
 
 returns : tie.Need-returns
 returns c =
-    let at-start = c .before in
-    let at-if1 = c .if1 in
-    simp (le-ltb (at-start .args .d) (at-start .args .limit) (omega (arith, at-if1 .taken)))
+    let start = c .before in
+    simp (le-ltb (start .args .d) (start .args .limit) (omega (arith, c .if1 .taken)))
+
+-- place d is not far from the first, and the codes are small
+far : (c : tie.Else1) → (c .before .args .first ≤ mostCode) × (c .before .args .stride * c .before .args .d ≤ 18 * 8)
+far c = (c .before .pre .0, mul-le-mul (c .before .pre .1) (c .before .pre .2))
 
 mul-result : tie.Need-mul-result
-mul-result c =
-    let at-start = c .before in
-    let a = at-start .args in
-    let few : a .d ≤ 8 = omega (arith, at-start .pre .2) in
-    let m = mul-le-mul (at-start .pre .1) few in
-    omega (arith, at-start .pre .0)
+mul-result c = omega (arith, far c)
 
 add-result : tie.Need-add-result
-add-result c =
-    let at-start = c .before in
-    let a = at-start .args in
-    let few : a .d ≤ 8 = omega (arith, at-start .pre .2) in
-    let m = mul-le-mul (at-start .pre .1) few in
-    omega (arith, at-start .pre .0)
+add-result c = omega (arith, far c)
 
 add-result-2 : tie.Need-add-result-2
-add-result-2 c =
-    let at-start = c .before in
-    let a = at-start .args in
-    let few : a .d ≤ 8 = omega (arith, at-start .pre .2) in
-    let m = mul-le-mul (at-start .pre .1) few in
-    omega (arith, at-start .pre .0)
+add-result-2 c = omega (arith, far c)
 
 returns-2 : tie.Need-returns-2
 returns-2 c =
-    let at-start = c .before in
-    let at-if1 = c .if1 in
-    simp (lt-ltb (at-start .args .d) (at-start .args .limit) (omega (arith, at-if1 .left)))
+    let start = c .before in
+    simp (lt-ltb (start .args .d) (start .args .limit) (omega (arith, c .if1 .left)))
 
 pub longer-spec : {M : Type 1} → statement M
 longer-spec = tie.close (tie.spec returns mul-result add-result add-result-2 returns-2)

@@ -35,49 +35,31 @@ module _ {first : ℕ} {low c n : ℤ} {d : ℕ} (h : Added first low c n d) whe
   offset-back = rw offset-is (small-back w16 (n +ℤ c *ℤ pos d -ℤ low) (omega (arith, h .offset-few)))
 
 cast-result : tie.Need-cast-result
-cast-result c =
-    let at-start = c in
-    wide-fits (at-start .args .c) (at-start .args .d) (at-start .pre .coefficient-few) (at-start .pre .length-few)
+cast-result c = wide-fits (c .args .c) (c .args .d) (c .pre .coefficient-few) (c .pre .length-few)
 
 cast-result-2 : tie.Need-cast-result-2
-cast-result-2 c =
-    let at-start = c in
-    small-fits w16 (pos (at-start .args .d)) (omega (arith, at-start .pre .length-few))
+cast-result-2 c = small-fits w16 (pos (c .args .d)) (omega (arith, c .pre .length-few))
 
 mul-result : tie.Need-mul-result
-mul-result c =
-    let at-start = c in
-    product-fits (at-start .args .c) (at-start .args .d) (at-start .pre .coefficient-few) (at-start .pre .length-few)
+mul-result c = product-fits (c .args .c) (c .args .d) (c .pre .coefficient-few) (c .pre .length-few)
 
 add-result : tie.Need-add-result
-add-result c =
-    let at-start = c in
-    rw (sum-is (at-start .pre)) (small-fits w16 (at-start .args .n +ℤ at-start .args .c *ℤ pos (at-start .args .d)) (omega (arith, sum-small (at-start .pre))))
+add-result c = rw (sum-is (c .pre)) (small-fits w16 (c .args .n +ℤ c .args .c *ℤ pos (c .args .d)) (omega (arith, sum-small (c .pre))))
 
 sub-result : tie.Need-sub-result
-sub-result c =
-    let at-start = c in
-    rw (offset-is (at-start .pre)) (small-fits w16 (at-start .args .n +ℤ at-start .args .c *ℤ pos (at-start .args .d) -ℤ at-start .args .low) (omega (arith, at-start .pre .offset-few)))
+sub-result c = rw (offset-is (c .pre)) (small-fits w16 (c .args .n +ℤ c .args .c *ℤ pos (c .args .d) -ℤ c .args .low) (omega (arith, c .pre .offset-few)))
 
 cast-result-3 : tie.Need-cast-result-3
-cast-result-3 c =
-    let at-start = c in
-    rw (offset-back (at-start .pre)) (subst (λ z. T (nonNeg z)) (sym (at-start .pre .above)) tt, record { fits = omega (arith, at-start .pre .offset-few) })
+cast-result-3 c = rw (offset-back (c .pre)) (subst (λ z. T (nonNeg z)) (sym (c .pre .above)) tt, record { fits = omega (arith, c .pre .offset-few) })
 
 mul-result-2 : tie.Need-mul-result-2
-mul-result-2 c =
-    let at-start = c in
-    rw (offset-back (at-start .pre)) (omega (arith, at-start .pre .offset-few))
+mul-result-2 c = rw (offset-back (c .pre)) (omega (arith, c .pre .offset-few))
 
 add-result-2 : tie.Need-add-result-2
-add-result-2 c =
-    let at-start = c in
-    rw (offset-back (at-start .pre)) (omega (arith, at-start .pre .offset-few, at-start .pre .at-first))
+add-result-2 c = rw (offset-back (c .pre)) (omega (arith, c .pre .offset-few, c .pre .at-first))
 
 returns : tie.Need-returns
-returns c =
-    let at-start = c in
-    rw (offset-back (at-start .pre))
+returns c = rw (offset-back (c .pre))
 
 pub next-code-spec : {M : Type 1} → statement M
 next-code-spec =

@@ -1,5 +1,6 @@
 -- `rendering::put_all_pairs` meets its contract. The loop's invariant: the lines of the first a values have been written. Assumes nothing.
-use Prim.Native.Nat.{suc, _+_, _-_, _≤_}
+use mathlib.Core.List.{List}
+use Prim.Native.Nat.{ℕ, suc, _+_, _-_, _≤_}
 use native.Mathlib.Omega.{arith}
 use Rattle.model.specs.Lists.{each, upTo}
 use Rattle.model.proofs.Seams.{Written}
@@ -14,44 +15,48 @@ Inv-loop buf₀ at first letters past₀ a₀ buf past a = (a ≤ letters + 1) �
 abbrev μ-loop : tie.MeasureT-loop
 μ-loop buf₀ at first letters past₀ a₀ buf past a = letters + 1 - a
 
-loop-holds : tie.Need-loop-holds Inv-loop μ-loop
-loop-holds c =
-    let at-start = c .before in
-    let a = at-start .args in
-    (omega arith, loop-none (pairLines (a .first) (a .letters)))
+-- the lines of each value
+abbrev lines : tie.Start Inv-loop μ-loop → ℕ → List ℕ
+lines start = pairLines (start .args .first) (start .args .letters)
 
-put-pairs-requires : tie.Need-put-pairs-requires Inv-loop μ-loop
-put-pairs-requires c κs =
-    let at-start = c .before .before .before .before in
+loop-holds : tie.Need-loop-holds Inv-loop μ-loop
+loop-holds c = (omega arith, loop-none (lines (c .before)))
+
+mul-put-unlike : tie.Need-mul-put-unlike Inv-loop μ-loop
+mul-put-unlike c = omega arith
+
+add-put-unlike : tie.Need-add-put-unlike Inv-loop μ-loop
+add-put-unlike c = omega arith
+
+add-put-unlike-2 : tie.Need-add-put-unlike-2 Inv-loop μ-loop
+add-put-unlike-2 c = omega arith
+
+put-unlike-requires : tie.Need-put-unlike-requires Inv-loop μ-loop
+put-unlike-requires c κs =
+    let start = c .before .before .before .before in
     let at-loop = c .before .before .loop in
-    let a = at-start .args in
-    (at-start .pre .0, at-start .pre .1, omega arith, loop-room (pairLines (a .first) (a .letters)) (suc (a .letters)) (at-start .pre .2) (at-loop .inv .1) (omega arith))
+    (omega arith, omega arith, omega arith, loop-room (lines start) (suc (start .args .letters)) (start .pre .2) (at-loop .inv .1) (omega arith))
 
 add-a : tie.Need-add-a Inv-loop μ-loop
-add-a c =
-    let at-start = c .before .before .before .before .before .before .before in
-    omega (arith, at-start .pre .1)
+add-a c = omega arith
 
 loop-less : tie.Need-loop-less Inv-loop μ-loop
 loop-less c = omega arith
 
 loop-again : tie.Need-loop-again Inv-loop μ-loop
 loop-again c =
-    let at-start = c .before .before .before .before .before .before .before in
-    let at-loop = c .before .before .before .before .before .loop in
-    let at-put-pairs = c .before .before .put-pairs in
-    let a = at-start .args in
-    (omega arith, loop-next (pairLines (a .first) (a .letters)) (suc (a .letters)) (at-start .pre .2) (at-loop .inv .1) (omega arith) (at-put-pairs .last .0) (at-put-pairs .result) (at-put-pairs .ensures) (at-put-pairs .kept .0))
+    let after = c .before .before in
+    let at-loop = after .before .before .before .loop in
+    let start = after .before .before .before .before .before in
+    (omega arith, loop-next (lines start) (suc (start .args .letters)) (start .pre .2) (at-loop .inv .1) (omega arith) (after .put-unlike .last .0) (after .put-unlike .result) (after .put-unlike .ensures) (after .put-unlike .kept .0))
 
 same-length : tie.Need-same-length Inv-loop μ-loop
 same-length c = c .before .loop .inv .1 .long
 
 returns : tie.Need-returns Inv-loop μ-loop
 returns c =
-    let at-start = c .before .before .before in
-    let at-loop = c .before .loop in
-    let a = at-start .args in
-    loop-done (pairLines (a .first) (a .letters)) (suc (a .letters)) (at-start .pre .2) (at-loop .inv .1) (omega arith)
+    let start = c .before .before .before in
+    loop-done (lines start) (suc (start .args .letters)) (start .pre .2) (c .before .loop .inv .1) (omega arith)
 
 pub put-all-pairs-spec : {M : Type 1} → statement M
 put-all-pairs-spec =
@@ -60,7 +65,10 @@ put-all-pairs-spec =
     Inv-loop
     μ-loop
     loop-holds
-    put-pairs-requires
+    mul-put-unlike
+    add-put-unlike
+    add-put-unlike-2
+    put-unlike-requires
     add-a
     loop-less
     loop-again

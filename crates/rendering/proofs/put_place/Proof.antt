@@ -1,118 +1,139 @@
 -- `rendering::put_place` meets its contract: three pieces, the last one empty at a field's last place. Assumes nothing.
-use mathlib.Core.Path.{_≡_, refl, sym, ap, subst}
-use mathlib.Core.List.{[], _∷_}
+use mathlib.Core.Path.{refl, ap}
+use mathlib.Core.List.{List, [], _∷_}
 use Prim.Native.Nat.{ℕ, suc, _*_, _<_, _≤_}
 use native.Mathlib.Omega.{arith}
 use lib.Dec.{ltb}
-use lib.ListN.{length}
 use borrow.Author.Needs.{needs}
 use borrow.Author.Tests.{lt-ltb, le-ltb}
-use Rattle.model.specs.Lists.{each, upTo, when, Puts}
-use Rattle.model.specs.Sheet.{sheetOf, limit}
-use Rattle.formula.specs.Clause.{K, SomeValue, BlankTail, Start, blank}
-use Rattle.formula.specs.Numbering.{number}
+use Rattle.model.specs.Lists.{each, upTo, when}
+use Rattle.model.specs.Sheet.{Sheet, sheetOf, limit}
+use Rattle.formula.specs.Clause.{SomeValue, BlankTail, Start}
 use Rattle.model.proofs.Seams.{nothing}
 use Rattle.formula.proofs.Small.{letters-few, limit-small}
 use Rattle.dimacs.proofs.Laws.{Writing, joined, begin, fits, next, ends}
-use Rattle.rendering.specs.Lines.{lineOf, placeLines}
+use Rattle.literals.specs.Name.{lineOf}
+use Rattle.rendering.specs.Lines.{placeLines}
 use Rattle.rendering.specs.Codes.{pairLines}
 use Rattle.rendering.proofs.Whole.{place-lines}
 use Rattle.rendering.proofs.put_place.Statement.{statement}
 use Rattle.rendering.proofs.put_place.Tie as tie
 
-begun : (c : tie.Start) (first l : ℕ) → first ≡ 2 * number (sheetOf (c .args .sheet .now)) (K (c .args .f) (c .args .c) 0) → l ≡ blank (sheetOf (c .args .sheet .now))
-    → Writing (c .args .buf .now) (c .args .at) (placeLines (sheetOf (c .args .sheet .now)) (c .args .f) (c .args .c)) (lineOf (sheetOf (c .args .sheet .now)) (SomeValue (c .args .f) (c .args .c)))
-    (each (upTo (suc l)) (pairLines first l) ∷ when (ltb (suc (c .args .c)) (limit (sheetOf (c .args .sheet .now)) (c .args .f))) (lineOf (sheetOf (c .args .sheet .now)) (BlankTail (c .args .f) (c .args .c))) ∷ []) (c .args .buf .now) (c .args .at)
-unfolding joined
-begun c first l e el = begin _ _ _ _ _ (place-lines (sheetOf (c .args .sheet .now)) (c .args .f) (c .args .c) first l e el) (c .pre .2)
-
 letters-requires : tie.Need-letters-requires
-letters-requires c κs =
-    let at-start = c .before .before in
-    at-start .pre .0
+letters-requires c κs = c .before .before .pre .0
 
 place-number-requires : tie.Need-place-number-requires
 place-number-requires c κs =
-    let at-start = c .before .before .before in
-    (at-start .pre .0, (at-start .pre .1 .0, at-start .pre .1 .1, omega arith))
+    let start = c .before .before .before in
+    (start .pre .0, (start .pre .1 .0, start .pre .1 .1, omega arith))
 
 mul-first : tie.Need-mul-first
-mul-first c =
-    let place-number = c .place-number in
-    omega (arith, place-number .ensures .1)
+mul-first c = omega (arith, c .place-number .ensures .1)
+
+-- the pieces, and what is still to be written of them
+module _ (c : tie.After-place-number) where
+  abbrev start-of : tie.Start
+  start-of = c .before .before .before .before
+
+  abbrev s : Sheet
+  s = sheetOf (start-of .args .sheet .now)
+
+  abbrev letters : ℕ
+  letters = c .before .letters .result
+
+  abbrev some : List ℕ
+  some = lineOf s (SomeValue (start-of .args .f) (start-of .args .c))
+
+  abbrev pairs : List ℕ
+  pairs = each (upTo (suc letters)) (pairLines (2 * c .place-number .result) letters)
+
+  abbrev tail : List ℕ
+  tail = lineOf s (BlankTail (start-of .args .f) (start-of .args .c))
+
+  abbrev some-tail : List ℕ
+  some-tail = when (ltb (suc (start-of .args .c)) (limit s (start-of .args .f))) tail
+
+  abbrev Still : List ℕ → List (List ℕ) → List ℕ → ℕ → Type 0
+  Still = Writing (start-of .args .buf .now) (start-of .args .at) (placeLines s (start-of .args .f) (start-of .args .c))
+
+  begun : Still some (pairs ∷ some-tail ∷ []) (start-of .args .buf .now) (start-of .args .at)
+  unfolding joined
+  begun = begin _ _ _ _ _ (place-lines s (start-of .args .f) (start-of .args .c) (2 * c .place-number .result) letters (ap (λ n. 2 * n) (c .place-number .ensures .0)) (c .before .letters .ensures)) (start-of .pre .2)
 
 put-clause-requires : tie.Need-put-clause-requires
 put-clause-requires c κs =
-    let at-start = c .before .before .before .before .before in
-    let place-number = c .before .place-number in
-    let at-letters = c .before .before .letters in
-    (at-start .pre .0, at-start .pre .1, fits (begun at-start (2 * place-number .result) (at-letters .result) (ap (λ n. 2 * n) (place-number .ensures .0)) (at-letters .ensures)))
+    let start = start-of (c .before) in
+    (start .pre .0, start .pre .1, fits (begun (c .before)))
+
+abbrev known : tie.After-put-clause → tie.After-place-number
+known c = c .before .before
+
+before-pairs : (c : tie.After-put-clause) → Still (known c) (pairs (known c)) (some-tail (known c) ∷ []) (c .put-clause .last .0) (c .put-clause .result)
+before-pairs c = next (begun (known c)) (c .put-clause .ensures) (c .put-clause .kept .0)
 
 put-all-pairs-requires : tie.Need-put-all-pairs-requires
 put-all-pairs-requires c κs =
-    let place-number = c .before .before .before .before .before .place-number in
-    let at-letters = c .before .before .before .before .before .before .letters in
-    let at-start = c .before .before .before .before .before .before .before .before .before in
-    let at-put-clause = c .before .before .before .put-clause in
-    (omega (arith, place-number .ensures .1), omega (arith, at-letters .ensures, letters-few (sheetOf (at-start .args .sheet .now)) (at-start .pre .0 .1)), fits (next (begun at-start (2 * place-number .result) (at-letters .result) (ap (λ n. 2 * n) (place-number .ensures .0)) (at-letters .ensures)) (at-put-clause .ensures) (at-put-clause .kept .0)))
+    let after = c .before .before .before in
+    let facts = known after in
+    (omega (arith, facts .place-number .ensures .1), omega (arith, facts .before .letters .ensures, letters-few (s facts) (start-of facts .pre .0 .1)), fits (before-pairs after))
+
+abbrev clause-of : tie.After-put-all-pairs → tie.After-put-clause
+clause-of c = c .before .before .before .before
+
+before-tail : (c : tie.After-put-all-pairs) → Still (known (clause-of c)) (some-tail (known (clause-of c))) [] (c .put-all-pairs .last .0) (c .put-all-pairs .result)
+before-tail c = next (before-pairs (clause-of c)) (c .put-all-pairs .ensures) (c .put-all-pairs .kept .0)
 
 add-if1 : tie.Need-add-if1
 add-if1 c =
-    let at-start = c .before .before .before .before .before .before .before .before .before .before .before .before in
-    omega (arith, at-start .pre .1 .1, limit-small (sheetOf (at-start .args .sheet .now)) (at-start .pre .0 .1) (at-start .args .f))
+    let facts = known (clause-of (c .before .before)) in
+    let start = start-of facts in
+    omega (arith, start .pre .1 .1, limit-small (s facts) (start .pre .0 .1) (start .args .f))
 
 limit-requires : tie.Need-limit-requires
 limit-requires c κs =
-    let at-start = c .before .before .before .before .before .before .before .before .before .before .before .before in
-    (at-start .pre .0, at-start .pre .1 .0)
+    let start = start-of (known (clause-of (c .before .before))) in
+    (start .pre .0, start .pre .1 .0)
+
+-- a blank tail where the place is not the last, and none at the last
+abbrev pairs-of : tie.After-limit → tie.After-put-all-pairs
+pairs-of c = c .before .before .before
+
+abbrev facts-of : tie.After-limit → tie.After-place-number
+facts-of c = known (clause-of (pairs-of c))
+
+inside : (c : tie.Then1) → suc (start-of (facts-of (c .before)) .args .c) < limit (s (facts-of (c .before))) (start-of (facts-of (c .before)) .args .f)
+inside c = omega (arith, c .if1 .taken, c .before .limit .ensures .0)
+
+not-last : (c : tie.Then1) → Still (facts-of (c .before)) (tail (facts-of (c .before))) [] (pairs-of (c .before) .put-all-pairs .last .0) (pairs-of (c .before) .put-all-pairs .result)
+not-last c = rw (lt-ltb _ _ (inside c)) at (before-tail (pairs-of (c .before)))
+
+at-last : (c : tie.Else1) → Still (facts-of (c .before)) [] [] (pairs-of (c .before) .put-all-pairs .last .0) (pairs-of (c .before) .put-all-pairs .result)
+at-last c =
+    let facts = facts-of (c .before) in
+    let outside : limit (s facts) (start-of facts .args .f) ≤ suc (start-of facts .args .c) = omega (arith, c .if1 .left, c .before .limit .ensures .0) in
+    rw (le-ltb _ _ outside) at (before-tail (pairs-of (c .before)))
 
 put-clause-requires-2 : tie.Need-put-clause-requires-2
 put-clause-requires-2 c κs =
-    let at-start = c .before .before .before .before .before .before .before .before .before .before .before .before .before .before .before in
-    let at-if1 = c .before .if1 in
-    let at-limit = c .before .before .limit in
-    let place-number = c .before .before .before .before .before .before .before .before .before .before .before .place-number in
-    let at-letters = c .before .before .before .before .before .before .before .before .before .before .before .before .letters in
-    let at-put-clause = c .before .before .before .before .before .before .before .before .before .put-clause in
-    let at-put-all-pairs = c .before .before .before .before .before .put-all-pairs in
-    let inside : suc (at-start .args .c) < limit (sheetOf (at-start .args .sheet .now)) (at-start .args .f) = omega (arith, at-if1 .taken, at-limit .ensures .0) in
-    let room = fits (next (next (begun at-start (2 * place-number .result) (at-letters .result) (ap (λ n. 2 * n) (place-number .ensures .0)) (at-letters .ensures)) (at-put-clause .ensures) (at-put-clause .kept .0)) (at-put-all-pairs .ensures) (at-put-all-pairs .kept .0)) in
-    let e : when (ltb (suc (at-start .args .c)) (limit (sheetOf (at-start .args .sheet .now)) (at-start .args .f))) (lineOf (sheetOf (at-start .args .sheet .now)) (BlankTail (at-start .args .f) (at-start .args .c))) ≡ lineOf (sheetOf (at-start .args .sheet .now)) (BlankTail (at-start .args .f) (at-start .args .c)) = rw (lt-ltb (suc (at-start .args .c)) (limit (sheetOf (at-start .args .sheet .now)) (at-start .args .f)) inside) in
-    (at-start .pre .0, (at-start .pre .1, inside), omega (arith, ap length e))
+    let start = start-of (facts-of (c .before .before)) in
+    (start .pre .0, (start .pre .1, inside (c .before)), fits (not-last (c .before)))
 
 same-length : tie.Need-same-length
 same-length c = search needs
 
 returns : tie.Need-returns
 returns c =
-    let at-start = c .before .before .before .before .before .before .before .before .before .before .before .before .before .before .before .before .before .before in
-    let at-if1 = c .before .before .before .before .if1 in
-    let at-limit = c .before .before .before .before .before .limit in
-    let place-number = c .before .before .before .before .before .before .before .before .before .before .before .before .before .before .place-number in
-    let at-letters = c .before .before .before .before .before .before .before .before .before .before .before .before .before .before .before .letters in
-    let at-put-clause = c .before .before .before .before .before .before .before .before .before .before .before .before .put-clause in
-    let at-put-all-pairs = c .before .before .before .before .before .before .before .before .put-all-pairs in
-    let at-put-clause2 = c .before .before .put-clause2 in
-    let inside : suc (at-start .args .c) < limit (sheetOf (at-start .args .sheet .now)) (at-start .args .f) = omega (arith, at-if1 .taken, at-limit .ensures .0) in
-    let e : when (ltb (suc (at-start .args .c)) (limit (sheetOf (at-start .args .sheet .now)) (at-start .args .f))) (lineOf (sheetOf (at-start .args .sheet .now)) (BlankTail (at-start .args .f) (at-start .args .c))) ≡ lineOf (sheetOf (at-start .args .sheet .now)) (BlankTail (at-start .args .f) (at-start .args .c)) = rw (lt-ltb (suc (at-start .args .c)) (limit (sheetOf (at-start .args .sheet .now)) (at-start .args .f)) inside) in
-    ends _ _ (next (next (begun at-start (2 * place-number .result) (at-letters .result) (ap (λ n. 2 * n) (place-number .ensures .0)) (at-letters .ensures)) (at-put-clause .ensures) (at-put-clause .kept .0)) (at-put-all-pairs .ensures) (at-put-all-pairs .kept .0)) (subst (λ w. Puts (at-put-all-pairs .last .0) (at-put-all-pairs .result) w (at-put-clause2 .last .0) (at-put-clause2 .result)) (sym e) (at-put-clause2 .ensures)) (at-put-clause2 .kept .0)
+    let after = c .before .before in
+    ends _ _ (not-last (after .before .before)) (after .put-clause2 .ensures) (after .put-clause2 .kept .0)
 
 same-length-2 : tie.Need-same-length-2
 same-length-2 c = search needs
 
 returns-2 : tie.Need-returns-2
 returns-2 c =
-    let at-start = c .before .before .before .before .before .before .before .before .before .before .before .before .before .before in
-    let at-if1 = c .if1 in
-    let at-limit = c .before .limit in
-    let at-put-all-pairs = c .before .before .before .before .put-all-pairs in
-    let place-number = c .before .before .before .before .before .before .before .before .before .before .place-number in
-    let at-letters = c .before .before .before .before .before .before .before .before .before .before .before .letters in
-    let at-put-clause = c .before .before .before .before .before .before .before .before .put-clause in
-    let outside : limit (sheetOf (at-start .args .sheet .now)) (at-start .args .f) ≤ suc (at-start .args .c) = omega (arith, at-if1 .left, at-limit .ensures .0) in
-    let e : when (ltb (suc (at-start .args .c)) (limit (sheetOf (at-start .args .sheet .now)) (at-start .args .f))) (lineOf (sheetOf (at-start .args .sheet .now)) (BlankTail (at-start .args .f) (at-start .args .c))) ≡ [] = rw (le-ltb (suc (at-start .args .c)) (limit (sheetOf (at-start .args .sheet .now)) (at-start .args .f)) outside) in
-    let none = nothing (at-put-all-pairs .last .0) (at-put-all-pairs .result) in
-    ends _ _ (next (next (begun at-start (2 * place-number .result) (at-letters .result) (ap (λ n. 2 * n) (place-number .ensures .0)) (at-letters .ensures)) (at-put-clause .ensures) (at-put-clause .kept .0)) (at-put-all-pairs .ensures) (at-put-all-pairs .kept .0)) (subst (λ w. Puts (at-put-all-pairs .last .0) (at-put-all-pairs .result) w (at-put-all-pairs .last .0) (at-put-all-pairs .result)) (sym e) (none .past, none .holds)) refl
+    let at-pairs = pairs-of (c .before) .put-all-pairs in
+    let none = nothing (at-pairs .last .0) (at-pairs .result) in
+    ends _ _ (at-last c) (none .past, none .holds) refl
 
 pub put-place-spec : {M : Type 1} → statement M
 put-place-spec =

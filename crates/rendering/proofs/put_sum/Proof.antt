@@ -14,7 +14,7 @@ use Rattle.model.proofs.Pieces.{loop-none, loop-room, loop-next, loop-done}
 use Rattle.scan.proofs.Machine.{small-back}
 use Rattle.dimacs.specs.Codes.{codesLine}
 use Rattle.rendering.specs.Codes.{addLine, Added}
-use Rattle.rendering.proofs.Located.{same-four}
+use Rattle.locations.proofs.Located.{same-four}
 use Rattle.rendering.proofs.put_sum.Statement.{statement}
 use Rattle.rendering.proofs.put_sum.Tie as tie
 
@@ -71,43 +71,46 @@ next-code-requires c κs =
     let at-loop-test = c .before .before .loop-test in
     rw (low-back at-start, coefficient-back at-start, sum-is at-start) (at-start .pre .4 (at-loop .d) (at-loop-test .taken))
 
+-- the line of length d, as the machine has it
+abbrev start-of : tie.In-loop Inv-loop μ-loop → tie.Start Inv-loop μ-loop
+start-of c = c .before .before .before
+
+abbrev loop-of : tie.After-next-code Inv-loop μ-loop → tie.In-loop Inv-loop μ-loop
+loop-of c = c .before .before .before
+
+line-is : (c : tie.After-next-code Inv-loop μ-loop) → codesLine (start-of (loop-of c) .args .here ∷ c .before .before .shorter .result ∷ c .before .longer .result ∷ c .next-code .result ∷ [])
+    ≡ machine (start-of (loop-of c)) (loop-of c .before .loop .d)
+unfolding addLine
+line-is c = same-four refl (c .before .before .shorter .ensures) (c .before .longer .ensures) (c .next-code .ensures)
+
 slice-aggregate-clause-line : tie.Need-slice-aggregate-clause-line Inv-loop μ-loop
 slice-aggregate-clause-line c = search needs
 
 clause-line-requires : tie.Need-clause-line-requires Inv-loop μ-loop
-unfolding addLine
 clause-line-requires c κs =
-    let at-start = c .before .before .before .before .before .before .before .before in
-    let at-shorter = c .before .before .before .before .shorter in
-    let at-longer = c .before .before .before .longer in
-    let at-next-code = c .before .before .next-code in
-    let at-loop = c .before .before .before .before .before .before .loop in
-    let at-loop-test = c .before .before .before .before .before .loop-test in
-    let e : codesLine (at-start .args .here ∷ at-shorter .result ∷ at-longer .result ∷ at-next-code .result ∷ []) ≡ machine at-start (at-loop .d) = same-four refl (at-shorter .ensures) (at-longer .ensures) (at-next-code .ensures) in
-    subst (λ w. at-loop .past + length w ≤ length (at-loop .buf)) (sym e) (loop-room (machine at-start) (suc (at-start .args .limit)) (room at-start) (at-loop .inv .1) (omega (arith, at-loop-test .taken)))
+    let after-next-code = c .before .before in
+    let in-loop = loop-of after-next-code in
+    let at-loop = in-loop .before .loop in
+    let start = start-of in-loop in
+    subst (λ w. at-loop .past + length w ≤ length (at-loop .buf)) (sym (line-is after-next-code)) (loop-room (machine start) (suc (start .args .limit)) (room start) (at-loop .inv .1) (omega (arith, in-loop .loop-test .taken)))
 
 add-d : tie.Need-add-d Inv-loop μ-loop
 add-d c =
-    let at-loop-test = c .before .before .before .before .before .before .before .before .loop-test in
-    let at-start = c .before .before .before .before .before .before .before .before .before .before .before in
-    omega (arith, at-loop-test .taken, at-start .pre .3)
+    let in-loop = c .before .before .before .before .before .before .before .before in
+    omega (arith, in-loop .loop-test .taken, start-of in-loop .pre .3)
 
 loop-less : tie.Need-loop-less Inv-loop μ-loop
 loop-less c = omega arith
 
 loop-again : tie.Need-loop-again Inv-loop μ-loop
-unfolding addLine
 loop-again c =
-    let at-start = c .before .before .before .before .before .before .before .before .before .before .before in
-    let at-shorter = c .before .before .before .before .before .before .before .shorter in
-    let at-longer = c .before .before .before .before .before .before .longer in
-    let at-next-code = c .before .before .before .before .before .next-code in
-    let at-loop = c .before .before .before .before .before .before .before .before .before .loop in
     let at-clause-line = c .before .before .clause-line in
-    let at-loop-test = c .before .before .before .before .before .before .before .before .loop-test in
-    let e : codesLine (at-start .args .here ∷ at-shorter .result ∷ at-longer .result ∷ at-next-code .result ∷ []) ≡ machine at-start (at-loop .d) = same-four refl (at-shorter .ensures) (at-longer .ensures) (at-next-code .ensures) in
-    let piece = subst (λ w. Puts (at-loop .buf) (at-loop .past) w (at-clause-line .last .0) (at-clause-line .result)) e (at-clause-line .ensures) in
-    (omega (arith, at-loop-test .taken), loop-next (machine at-start) (suc (at-start .args .limit)) (room at-start) (at-loop .inv .1) (omega (arith, at-loop-test .taken)) (at-clause-line .last .0) (at-clause-line .result) piece (at-clause-line .kept .0))
+    let after-next-code = c .before .before .before .before .before in
+    let in-loop = loop-of after-next-code in
+    let at-loop = in-loop .before .loop in
+    let start = start-of in-loop in
+    let piece = subst (λ w. Puts (at-loop .buf) (at-loop .past) w (at-clause-line .last .0) (at-clause-line .result)) (line-is after-next-code) (at-clause-line .ensures) in
+    (omega (arith, in-loop .loop-test .taken), loop-next (machine start) (suc (start .args .limit)) (room start) (at-loop .inv .1) (omega (arith, in-loop .loop-test .taken)) (at-clause-line .last .0) (at-clause-line .result) piece (at-clause-line .kept .0))
 
 same-length : tie.Need-same-length Inv-loop μ-loop
 same-length c = c .before .loop .inv .1 .long

@@ -48,8 +48,10 @@ clean c = lent-bytes (start c .args .sheet .now) (c .before .before .before .bef
 told : (c : tie.After-enum-told) → replied (c .before .before .before .read-reply .result) ≡ finished []
 told c = ap replied (c .enum-told .given .1)
 
-handed : (c : tie.After-enum-told) → Taken (start c .args .sheet .now) (start c .args .text .now) (replicate 54 0) (c .before .before .before .read-reply .last .1 .1 .0)
-    (replied (c .before .before .before .read-reply .result)) (c .before .before .before .read-reply .ensures)
+handed : (c : tie.After-enum-told) →
+    let at-read-reply = c .before .before .before .read-reply in
+    Taken (start c .args .sheet .now) (start c .args .text .now) (replicate 54 0) (at-read-reply .last .1 .1 .0)
+    (replied (at-read-reply .result)) (at-read-reply .ensures)
 handed c = taken (start c .args .sheet .now) (start c .args .text .now) (replicate 54 0) _ _ (c .before .before .before .read-reply .ensures) (clean c) (told c)
 
 known : (c : tie.After-enum-told) → Admitted (start c .args .sheet .now)
@@ -76,7 +78,8 @@ write-requires c κs =
     let at-fields = c .before .before in
     let at-told = at-fields .before in
     let b = start at-told .args .sheet .now in
-    let clash = accepted-clashes b (start at-told .args .text .now) (replicate 54 0) (at-told .before .before .before .read-reply .last .1 .1 .0) _ (at-told .before .before .before .read-reply .ensures) (clean at-told) (told at-told) .0 in
+    let at-read-reply = at-told .before .before .before .read-reply in
+    let clash = accepted-clashes b (start at-told .args .text .now) (replicate 54 0) (at-read-reply .last .1 .1 .0) _ (at-read-reply .ensures) (clean at-told) (told at-told) .0 in
     (rw (at-fields .fields .ensures) clash, omega (arith, start at-told .pre))
 
 same-length : tie.Need-same-length

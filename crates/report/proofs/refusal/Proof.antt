@@ -22,10 +22,13 @@ Still c = Writing (start c .args .buf .now) 0 (refusedLine (c .wide .result))
 short : (c : tie.After-wide) → length (refusedLine (c .wide .result)) ≤ 12
 short c = refused-short (c .wide .result) (omega (arith, c .wide .ensures .1))
 
-worded : (c : tie.After-wide) → Still c (decimal (c .wide .result)) ((10 ∷ []) ∷ []) (c .before .before .before .before .put .last .0) (c .before .before .before .before .put .result)
+abbrev after-put : tie.After-wide → tie.After-put
+after-put c = c .before .before .before .before
+
+worded : (c : tie.After-wide) → Still c (decimal (c .wide .result)) ((10 ∷ []) ∷ []) (after-put c .put .last .0) (after-put c .put .result)
 unfolding refusedLine joined
 worded c =
-    let at-put = c .before .before .before .before .put in
+    let at-put = after-put c .put in
     next (begin (start c .args .buf .now) 0 _ (114 ∷ 101 ∷ 102 ∷ 117 ∷ 115 ∷ 101 ∷ 100 ∷ 32 ∷ []) (decimal (c .wide .result) ∷ (10 ∷ []) ∷ []) refl (omega (arith, short c, start c .pre)))
     (at-put .ensures) (at-put .kept .0)
 
@@ -55,9 +58,9 @@ same-length c = search needs
 
 returns : tie.Need-returns
 returns c =
-    let after-put = c .before .before in
-    let after-print = after-put .before .before .before .before .before in
-    let all = ends _ _ (numbered after-print) (after-put .put2 .ensures) (after-put .put2 .kept .0) in
+    let after = c .before .before in
+    let after-print = after .before .before .before .before .before in
+    let all = ends _ _ (numbered after-print) (after .put2 .ensures) (after .put2 .kept .0) in
     let n = short (after-print .before) in
     let e = after-print .before .wide .ensures .0 in
     (rw e at all, omega (arith, all .0))

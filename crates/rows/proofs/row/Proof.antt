@@ -4,8 +4,7 @@ use Prim.Native.Nat.{_+_, _-_, _≤_}
 use native.Mathlib.Omega.{arith}
 use lib.ListN.{length, drop}
 use borrow.Author.Tests.{not-true, not-false}
-use Rattle.model.specs.Sheet.{fault, row}
-use Rattle.model.specs.Sheet.{rest}
+use Rattle.model.specs.Sheet.{fault, row, rest}
 use Rattle.rows.specs.Progress.{roleOf}
 use Rattle.rows.proofs.Rows.{row-starts, row-lacks, row-goes, row-faults, row-done}
 use Rattle.rows.proofs.row.Statement.{statement}

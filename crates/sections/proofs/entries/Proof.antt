@@ -4,8 +4,7 @@ use Prim.Native.Nat.{_-_, _≤_}
 use native.Mathlib.Omega.{arith}
 use borrow.Author.Needs.{needs}
 use lib.ListN.{length, drop}
-use Rattle.model.specs.Sheet.{times}
-use Rattle.model.specs.Sheet.{rest}
+use Rattle.model.specs.Sheet.{times, rest}
 use Rattle.rows.specs.Progress.{left}
 use Rattle.sections.specs.Sections.{entryOf}
 use Rattle.model.proofs.Rests.{times-starts, times-goes, times-stops, times-done}

@@ -15,28 +15,34 @@ use Rattle.sections.proofs.sides.Statement.{statement}
 use Rattle.sections.proofs.sides.Tie as tie
 
 -- the left symbols are read
-left-read : (c : tie.After-a) → rest (model.row (model.templateByte (c .before .before .before .before .args .letters) (c .before .before .before .before .args .fields)) 0 (c .before .before .before .before .args .m) (drop (c .before .before .before .before .args .at) (c .before .before .before .before .args .sheet .now))) ≡ model.got tt (drop (c .a .given .0 .0) (c .before .before .before .before .args .sheet .now))
-left-read c =
-    let at-start = c .before .before .before .before in
-    let a = at-start .args in
+left-read : (c : tie.After-a) →
+    let a = c .before .before .before .before .args in
     let b = a .sheet .now in
-    let xs = drop (a .at) b in
-    let symbols = model.templateByte (a .letters) (a .fields) in
-    at-told b (model.row symbols 0 (a .m) xs) (c .before .before .row .ensures .0) (c .a .given .1)
+    rest (model.row (model.templateByte (a .letters) (a .fields)) 0 (a .m) (drop (a .at) b)) ≡ model.got tt (drop (c .a .given .0 .0) b)
+left-read c =
+    let a = c .before .before .before .before .args in
+    let b = a .sheet .now in
+    at-told b (model.row (model.templateByte (a .letters) (a .fields)) 0 (a .m) (drop (a .at) b)) (c .before .before .row .ensures .0) (c .a .given .1)
 
 -- both sides' symbols are read
-both : (c : tie.After-e) → rest (model.sides (c .before .before .before .before .before .before .before .before .args .letters) (limitsIn (c .before .before .before .before .before .before .before .before .args .sheet .now) (c .before .before .before .before .before .before .before .before .args .letters) (c .before .before .before .before .before .before .before .before .args .fields)) (c .before .before .before .before .before .before .before .before .args .m) (c .before .before .before .before .before .before .before .before .args .n) (drop (c .before .before .before .before .before .before .before .before .args .at) (c .before .before .before .before .before .before .before .before .args .sheet .now)))
-    ≡ model.must (leb (model.width (limitsIn (c .before .before .before .before .before .before .before .before .args .sheet .now) (c .before .before .before .before .before .before .before .before .args .letters) (c .before .before .before .before .before .before .before .before .args .fields)) (map model.symbolOf (take (c .before .before .before .before .before .before .before .before .args .m) (drop (c .before .before .before .before .before .before .before .before .args .at) (c .before .before .before .before .before .before .before .before .args .sheet .now))))) 24) 14
-    (model.must (leb (model.width (limitsIn (c .before .before .before .before .before .before .before .before .args .sheet .now) (c .before .before .before .before .before .before .before .before .args .letters) (c .before .before .before .before .before .before .before .before .args .fields)) (map model.symbolOf (take (c .before .before .before .before .before .before .before .before .args .n) (drop (c .before .before .before .before .a .given .0 .0) (c .before .before .before .before .before .before .before .before .args .sheet .now))))) 24) 14 (model.got tt (drop (c .e .given .0 .0) (c .before .before .before .before .before .before .before .before .args .sheet .now))))
+both : (c : tie.After-e) →
+    let a = c .before .before .before .before .before .before .before .before .args in
+    let b = a .sheet .now in
+    let limits = limitsIn b (a .letters) (a .fields) in
+    let xs = drop (a .at) b in
+    let ys = drop (c .before .before .before .before .a .given .0 .0) b in
+    let zs = drop (c .e .given .0 .0) b in
+    rest (model.sides (a .letters) limits (a .m) (a .n) xs)
+    ≡ model.must (leb (model.width limits (map model.symbolOf (take (a .m) xs))) 24) 14
+    (model.must (leb (model.width limits (map model.symbolOf (take (a .n) ys))) 24) 14 (model.got tt zs))
 both c =
     let at-start = c .before .before .before .before .before .before .before .before in
     let a = at-start .args in
     let b = a .sheet .now in
-    let xs = drop (a .at) b in
     let symbols = model.templateByte (a .letters) (a .fields) in
     let ys = drop (c .before .before .before .before .a .given .0 .0) b in
     let zs = drop (c .e .given .0 .0) b in
-    both-read (a .letters) (a .fields) (limitsIn b (a .letters) (a .fields)) (limits-length b (a .letters) (a .fields) (at-start .pre .0)) (a .m) (a .n) xs ys
+    both-read (a .letters) (a .fields) (limitsIn b (a .letters) (a .fields)) (limits-length b (a .letters) (a .fields) (at-start .pre .0)) (a .m) (a .n) (drop (a .at) b) ys
     (left-read (c .before .before .before .before)) zs (at-told b (model.row symbols 0 (a .n) ys) (c .before .before .row2 .ensures .0) (c .e .given .1))
 
 row-requires : tie.Need-row-requires
@@ -107,8 +113,11 @@ returns-4 c =
 
 returns-5 : tie.Need-returns-5
 returns-5 c =
-    let end = landed-told (c .before .before .before .before .before .before .before .before .before .before .before .before .before .args .sheet .now) _ (c .before .before .before .before .before .before .before .row2 .ensures .1) (c .before .before .before .before .before .e .given .1) in
-    (sym (both (c .before .before .before .before .before) ∙ rw (sym (c .before .before .before .narrow .ensures) ∙ not-false _ (c .before .before .if1 .left), sym (c .before .narrow2 .ensures) ∙ not-false _ (c .if2 .left))), omega arith)
+    let at-start = c .before .before .before .before .before .before .before .before .before .before .before .before .before in
+    let at-row2 = c .before .before .before .before .before .before .before .row2 in
+    let after-e = c .before .before .before .before .before in
+    let end = landed-told (at-start .args .sheet .now) _ (at-row2 .ensures .1) (after-e .e .given .1) in
+    (sym (both after-e ∙ rw (sym (c .before .before .before .narrow .ensures) ∙ not-false _ (c .before .before .if1 .left), sym (c .before .narrow2 .ensures) ∙ not-false _ (c .if2 .left))), omega arith)
 
 pub sides-spec : {M : Type 1} → statement M
 sides-spec =

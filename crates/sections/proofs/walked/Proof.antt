@@ -2,8 +2,7 @@
 use mathlib.Core.Path.{_≡_, sym, _∙_}
 use native.Mathlib.Omega.{arith}
 use lib.ListN.{drop}
-use Rattle.model.specs.Sheet.{times}
-use Rattle.model.specs.Sheet.{rest}
+use Rattle.model.specs.Sheet.{times, rest}
 use Rattle.rows.specs.Progress.{left}
 use Rattle.sections.specs.Sections.{countsOf, entryOf, tablesOf}
 use Rattle.sections.specs.declared.Section.the-variants.{Equations, Constraints}

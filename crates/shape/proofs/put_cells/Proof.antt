@@ -6,7 +6,7 @@ use native.Mathlib.Omega.{arith}
 use lib.ListN.{length, getD, length-map, List·getD-map}
 use Rattle.model.specs.Sheet.{symbolOf, sheetOf}
 use Rattle.model.specs.Range.{SymbolIn}
-use Rattle.model.specs.Cells.{symbolCells, cells}
+use Rattle.model.specs.Cells.{symbolCells}
 use Rattle.model.proofs.Lists.{at}
 use Rattle.model.proofs.Seams.{Written, nothing, more}
 use Rattle.shape.specs.Bytes.{cellByte}

@@ -54,7 +54,9 @@ spell-requires c κs =
 abbrev written-word : (c : tie.After-template) → List ℕ
 written-word c = spell (textsOf (c .before .before .load .result)) (map symbolOf (c .template .result .now))
 
-word-there : (c : tie.After-word2) → take (c .before .spell .result) (c .before .spell .last .0) ≡ spell (meaning (c .before .before .before .before .before .before .before .before .before .before .before .args .sheet .now) (c .before .before .before .before .load .result)) (template (sheetOf (c .before .before .before .before .before .before .before .before .before .before .before .args .sheet .now)) (c .before .before .before .before .before .before .before .before .before .before .before .args .equation) (c .before .before .before .before .before .before .before .before .before .before .before .args .side))
+word-there : (c : tie.After-word2) →
+    let at-start = c .before .before .before .before .before .before .before .before .before .before .before in
+    take (c .before .spell .result) (c .before .spell .last .0) ≡ spell (meaning (at-start .args .sheet .now) (c .before .before .before .before .load .result)) (template (sheetOf (at-start .args .sheet .now)) (at-start .args .equation) (at-start .args .side))
 word-there c =
     let after-template = c .before .before in
     let at-start = c .before .before .before .before .before .before .before .before .before .before .before in
@@ -63,7 +65,9 @@ word-there c =
     front-is (replicate 24 0) (written-word after-template) (c .before .spell .last .0) (c .before .spell .result) (c .before .spell .ensures)
     ∙ word-is (at-start .args .sheet .now) (at-load .result) (at-load .ensures .0) (at-start .args .equation) (at-start .args .side) (at-start .pre .1) (at-template .result .now) (at-template .ensures)
 
-text-length : (c : tie.After-word2) → c .before .spell .result ≡ length (spelledText (sheetOf (c .before .before .before .before .before .before .before .before .before .before .before .args .sheet .now)) (c .before .before .before .before .before .before .before .before .before .before .before .args .equation) (c .before .before .before .before .before .before .before .before .before .before .before .args .side) (meaning (c .before .before .before .before .before .before .before .before .before .before .before .args .sheet .now) (c .before .before .before .before .load .result)))
+text-length : (c : tie.After-word2) →
+    let at-start = c .before .before .before .before .before .before .before .before .before .before .before in
+    c .before .spell .result ≡ length (spelledText (sheetOf (at-start .args .sheet .now)) (at-start .args .equation) (at-start .args .side) (meaning (at-start .args .sheet .now) (c .before .before .before .before .load .result)))
 text-length c =
     let after-template = c .before .before in
     let at-start = c .before .before .before .before .before .before .before .before .before .before .before in

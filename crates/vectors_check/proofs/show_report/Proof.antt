@@ -27,7 +27,9 @@ write-all-requires c κs = search needs
 
 -- the report
 abbrev printed : (c : tie.After-write) → List ℕ
-printed c = report (sheetOf (c .before .before .before .before .args .sheet .now)) (substitutionIn (filling (sheetOf (c .before .before .before .before .args .sheet .now)) (c .before .before .before .before .args .filling .now)))
+printed c =
+    let at-start = c .before .before .before .before in
+    report (sheetOf (at-start .args .sheet .now)) (substitutionIn (filling (sheetOf (at-start .args .sheet .now)) (at-start .args .filling .now)))
 
 array-share-prefix-buf : tie.Need-array-share-prefix-buf
 array-share-prefix-buf c =

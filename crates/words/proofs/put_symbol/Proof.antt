@@ -55,7 +55,9 @@ whole-field c =
     let at-start = c .before .before .before in
     whole-at (at-start .args .t4) (c .wide .result) (at-start .pre .0) (omega (arith, at-start .pre .1, c .wide .ensures .0))
 
-is-text : (c : tie.After-wide) → symbolWord (textsOf (c .before .before .before .args .t4)) (symbolOf (c .before .before .before .args .symbol)) ≡ textOf (the-field c)
+is-text : (c : tie.After-wide) →
+    let at-start = c .before .before .before in
+    symbolWord (textsOf (at-start .args .t4)) (symbolOf (at-start .args .symbol)) ≡ textOf (the-field c)
 is-text c =
     let at-start = c .before .before .before in
     field-word (at-start .args .t4) (at-start .args .symbol) (c .before .if1 .left) ∙ ap (λ f. textOf (field (at-start .args .t4) f)) (sym (c .wide .ensures .0))

@@ -1,8 +1,6 @@
 -- `automaton::choice::companions` meets its contract, which asks only that it ends. Assumes nothing.
 use Prim.Native.Nat.{_-_, _≤_}
 use native.Mathlib.Omega.{arith}
-use lib.ListN.{length}
-use Rattle.model.specs.Sheet.{sheetOf}
 use Rattle.automaton.proofs.choice.companions.Statement.{statement}
 use Rattle.automaton.proofs.choice.companions.Tie as tie
 

@@ -22,11 +22,11 @@ loop-holds c =
     let n = c .fields .ensures in
     (omega arith, omega arith)
 
-cast-equations-demand : tie.Need-cast-equations-demand Inv-loop μ-loop
-cast-equations-demand c = omega arith
+cast-section-demand : tie.Need-cast-section-demand Inv-loop μ-loop
+cast-section-demand c = omega arith
 
-equations-demand-requires : tie.Need-equations-demand-requires Inv-loop μ-loop
-equations-demand-requires c κs = c .before .before .before .before .pre .0
+section-demand-requires : tie.Need-section-demand-requires Inv-loop μ-loop
+section-demand-requires c κs = c .before .before .before .before .pre .0
 
 cast-constraint-demand : tie.Need-cast-constraint-demand Inv-loop μ-loop
 cast-constraint-demand c = omega arith
@@ -57,8 +57,8 @@ covered-spec =
     μ-loop
     fields-requires
     loop-holds
-    cast-equations-demand
-    equations-demand-requires
+    cast-section-demand
+    section-demand-requires
     cast-constraint-demand
     constraint-demand-requires
     returns

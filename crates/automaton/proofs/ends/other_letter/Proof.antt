@@ -1,5 +1,4 @@
 -- `automaton::ends::other_letter` meets its contract. Assumes nothing.
-use mathlib.Core.Path.{refl}
 use native.Mathlib.Omega.{arith}
 use borrow.Author.Tests.{not-true, eqb-false}
 use Rattle.model.proofs.Lists.{never}

@@ -9,7 +9,7 @@ use lib.Seq.{getD-set-same, getD-set-other}
 use lib.Dec.{ltb}
 use borrow.Author.Needs.{needs}
 use borrow.Author.Tests.{ltb-true, ltb-false}
-use Rattle.model.specs.Sheet.{limit, sheetOf}
+use Rattle.model.specs.Sheet.{sheetOf}
 use Rattle.model.proofs.Lists.{by-test}
 use Rattle.formula.proofs.Small.{fields-few}
 use Rattle.unification.proofs.Laws.{pick-ind}

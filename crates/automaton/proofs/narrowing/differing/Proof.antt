@@ -1,6 +1,6 @@
 -- `automaton::narrowing::differing` meets its contract. The loop's invariant: the sides of the first p equations are the same where their mark is
 -- false. Assumes nothing.
-use mathlib.Core.Bool.{Bool, true, false}
+use mathlib.Core.Bool.{Bool, false}
 use mathlib.Core.Path.{_≡_, refl, sym, ap, _∙_}
 use mathlib.Core.List.{List, map}
 use Prim.Native.Nat.{ℕ, _+_, _-_, _<_, _≤_}

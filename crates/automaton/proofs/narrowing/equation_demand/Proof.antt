@@ -1,13 +1,11 @@
 -- `automaton::narrowing::equation_demand` meets its contract. Assumes nothing.
 use mathlib.Core.Path.{_≡_, refl, ap, ap₂, _∙_}
 use mathlib.Core.Bool.{true, false}
-use mathlib.Core.List.{map}
-use Prim.Native.Nat.{_+_, _≤_}
+use Prim.Native.Nat.{_+_}
 use native.Mathlib.Omega.{arith}
-use lib.ListN.{length, getD}
+use lib.ListN.{getD}
 use borrow.Author.Needs.{needs}
 use borrow.Author.Tests.{not-true, not-false}
-use Rattle.model.specs.Sheet.{sheetOf, equation, symbolOf}
 use Rattle.shape.proofs.Laws.{symbols-are}
 use Rattle.inequalities.specs.Rows.{occurrences}
 use Rattle.gathering.proofs.Steps.{template-short}

@@ -13,11 +13,11 @@ use Rattle.automaton.specs.Narrow.{demandOf}
 use Rattle.automaton.proofs.narrowing.longest.Statement.{statement}
 use Rattle.automaton.proofs.narrowing.longest.Tie as tie
 
-equations-demand-requires : tie.Need-equations-demand-requires
-equations-demand-requires c κs = search needs
+section-demand-requires : tie.Need-section-demand-requires
+section-demand-requires c κs = search needs
 
-constraints-demand-requires : tie.Need-constraints-demand-requires
-constraints-demand-requires c κs = search needs
+section-demand-requires-2 : tie.Need-section-demand-requires-2
+section-demand-requires-2 c κs = search needs
 
 -- one of two that is not 0
 positive : (m n x y : ℕ) → x ≡ m → y ≡ n → (x ≡ 0 → y ≡ 0 → ⊥) → 0 < m + n
@@ -27,10 +27,10 @@ returns : tie.Need-returns
 unfolding demandOf
 returns c =
     let a = c .before .before .before .before .before .args in
-    let second : c .before .constraints-demand .result ≡ 0 = eqb-true _ _ (c .if2 .taken) in
+    let second : c .before .section-demand2 .result ≡ 0 = eqb-true _ _ (c .if2 .taken) in
     let none : ltb 0 (demandOf (sheetOf (a .sheet .now)) (a .equations) (a .constraints) (a .f)) ≡ false =
     le-ltb 0 (demandOf (sheetOf (a .sheet .now)) (a .equations) (a .constraints) (a .f))
-    (omega (arith, c .before .before .before .equations-demand .ensures, c .before .constraints-demand .ensures, c .before .before .if1 .taken)) in
+    (omega (arith, c .before .before .before .section-demand .ensures, c .before .section-demand2 .ensures, c .before .before .if1 .taken)) in
     rw none refl
 
 wide-requires : tie.Need-wide-requires
@@ -46,8 +46,8 @@ returns-2 c =
     let a = at-demand .before .before .args in
     let some : ltb 0 (demandOf (sheetOf (a .sheet .now)) (a .equations) (a .constraints) (a .f)) ≡ true =
     ⊎-elim
-    (λ w. lt-ltb _ _ (positive _ _ _ _ (at-demand .equations-demand .ensures) (w .1 .ensures) (λ m n. eqb-false _ _ (w .2 .left) n)))
-    (λ w. lt-ltb _ _ (positive _ _ _ _ (at-demand .equations-demand .ensures) refl (λ m n. w .left m)))
+    (λ w. lt-ltb _ _ (positive _ _ _ _ (at-demand .section-demand .ensures) (w .1 .ensures) (λ m n. eqb-false _ _ (w .2 .left) n)))
+    (λ w. lt-ltb _ _ (positive _ _ _ _ (at-demand .section-demand .ensures) refl (λ m n. w .left m)))
     (c .before .before .if1 .came) in
     rw some (c .limit .ensures ∙ ap (limit (sheetOf (a .sheet .now))) (c .before .wide .ensures .0))
 
@@ -55,8 +55,8 @@ pub longest-spec : {M : Type 1} → statement M
 longest-spec =
     tie.close
     (tie.spec
-    equations-demand-requires
-    constraints-demand-requires
+    section-demand-requires
+    section-demand-requires-2
     returns
     wide-requires
     limit-requires

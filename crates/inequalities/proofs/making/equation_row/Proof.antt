@@ -26,22 +26,34 @@ occurrences-requires : tie.Need-occurrences-requires
 occurrences-requires c κs = c .before .before .before .before .before .before .before .before .pre .0
 
 excess-requires-7 : tie.Need-excess-requires-7
-excess-requires-7 c κs = (c .before .before .before .before .before .before .before .before .before .pre .1, c .before .before .before .before .before .before .before .before .before .pre .0)
+excess-requires-7 c κs =
+    let at-start = c .before .before .before .before .before .before .before .before .before in
+    (at-start .pre .1, at-start .pre .0)
 
 excess-requires-8 : tie.Need-excess-requires-8
-excess-requires-8 c κs = (c .before .before .before .before .before .before .before .before .before .before .pre .1, c .before .before .before .before .before .before .before .before .before .before .pre .0)
+excess-requires-8 c κs =
+    let at-start = c .before .before .before .before .before .before .before .before .before .before in
+    (at-start .pre .1, at-start .pre .0)
 
 excess-requires-9 : tie.Need-excess-requires-9
-excess-requires-9 c κs = (c .before .before .before .before .before .before .before .before .before .before .before .pre .1, c .before .before .before .before .before .before .before .before .before .before .before .pre .0)
+excess-requires-9 c κs =
+    let at-start = c .before .before .before .before .before .before .before .before .before .before .before in
+    (at-start .pre .1, at-start .pre .0)
 
 excess-requires-10 : tie.Need-excess-requires-10
-excess-requires-10 c κs = (c .before .before .before .before .before .before .before .before .before .before .before .before .pre .1, c .before .before .before .before .before .before .before .before .before .before .before .before .pre .0)
+excess-requires-10 c κs =
+    let at-start = c .before .before .before .before .before .before .before .before .before .before .before .before in
+    (at-start .pre .1, at-start .pre .0)
 
 excess-requires-11 : tie.Need-excess-requires-11
-excess-requires-11 c κs = (c .before .before .before .before .before .before .before .before .before .before .before .before .before .pre .1, c .before .before .before .before .before .before .before .before .before .before .before .before .before .pre .0)
+excess-requires-11 c κs =
+    let at-start = c .before .before .before .before .before .before .before .before .before .before .before .before .before in
+    (at-start .pre .1, at-start .pre .0)
 
 excess-requires-12 : tie.Need-excess-requires-12
-excess-requires-12 c κs = (c .before .before .before .before .before .before .before .before .before .before .before .before .before .before .pre .1, c .before .before .before .before .before .before .before .before .before .before .before .before .before .before .pre .0)
+excess-requires-12 c κs =
+    let at-start = c .before .before .before .before .before .before .before .before .before .before .before .before .before .before in
+    (at-start .pre .1, at-start .pre .0)
 
 occurrences-requires-2 : tie.Need-occurrences-requires-2
 occurrences-requires-2 c κs = c .before .before .before .before .before .before .before .before .before .before .before .before .before .before .before .pre .1

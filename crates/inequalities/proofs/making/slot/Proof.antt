@@ -1,5 +1,4 @@
 -- `inequalities::making::slot` meets its contract: by the symbol's test. Assumes nothing.
-use Prim.Native.Nat.{_-_}
 use borrow.Author.Tests.{lt-ltb, le-ltb}
 use Rattle.inequalities.proofs.making.slot.Statement.{statement}
 use Rattle.inequalities.proofs.making.slot.Tie as tie

@@ -23,9 +23,10 @@ lent : (c : tie.After-cells)
     ≡ templateCells (sheetOf (c .before .before .before .before .before .before .args .sheet .now))
     (template (sheetOf (c .before .before .before .before .before .before .args .sheet .now)) (c .before .before .before .before .before .before .args .p) (c .before .before .before .before .before .before .args .side))
 lent c =
+    let at-side = c .before .before .before .side in
     let a = c .before .before .before .before .before .before .args in
     let s = sheetOf (a .sheet .now) in
-    first-cells (cells s (template s (a .p) (a .side))) (c .before .before .width .result) (c .before .before .before .side .result) (c .before .before .before .side .ensures) (c .before .before .width .ensures .0)
+    first-cells (cells s (template s (a .p) (a .side))) (c .before .before .width .result) (at-side .result) (at-side .ensures) (c .before .before .width .ensures .0)
 
 lent-length : (c : tie.After-cells) → length (take (c .before .before .width .result) (c .before .before .before .side .result)) ≡ c .before .before .width .result
 lent-length c =
