@@ -16,84 +16,143 @@
 extern "C" {
 #endif
 
+/* The refusals. A call returns minus one of these, as in -TPL_MARK; which ones, and in what order, stands above each call. */
+enum tpl_refusal {
+    /* Of a sheet. */
+    TPL_UNDER_NINE_BYTES = 1,      /* under 9 bytes */
+    TPL_MARK = 2,                  /* the first three bytes are not TPL */
+    TPL_VERSION = 3,               /* the version is not 1 */
+    TPL_LETTER_COUNT = 4,          /* the letter count is not 1 to TPL_LETTERS_MOST */
+    TPL_FIELD_COUNT = 5,           /* the field count is above TPL_FIELDS_MOST */
+    TPL_PAIR_COUNT = 6,            /* the pair count is not 1 to TPL_PAIRS_MOST */
+    TPL_RULE_COUNT = 7,            /* the rule count is above TPL_RULES_MOST */
+    TPL_BYTE_MISSING = 8,          /* the sheet ends where a byte is needed */
+    TPL_BYTES_LEFT_OVER = 9,       /* the sheet goes on after its last part */
+    TPL_LETTER = 10,               /* a letter is not 33 to 126, or not above the one before it */
+    TPL_LIMIT = 11,                /* a field's limit is above TPL_FIELD_PLACES */
+    TPL_SYMBOL_COUNT = 12,         /* a template has more than TPL_SYMBOLS_MOST symbols */
+    TPL_SYMBOL = 13,               /* a symbol is neither a letter's number nor TPL_FIELD_SYMBOL plus a field's */
+    TPL_WIDTH = 14,                /* a template's letters and its fields' limits, repeats counted, are above TPL_TEXT_MOST */
+    TPL_COEFFICIENT = 15,          /* a rule's coefficient is not -4 to 4 */
+    /* Of a filling. */
+    TPL_FILLING_SIZE = 20,         /* not TPL_FIELD_BYTES bytes per field */
+    TPL_LENGTH = 21,               /* a length is above the field's limit */
+    TPL_LETTER_NUMBER = 22,        /* a letter number is not below the letter count */
+    TPL_PAST_THE_LENGTH = 23,      /* a place past the length is not TPL_PAST_LENGTH */
+    /* Of what is asked for, and of the buffer that is lent for it. */
+    TPL_PAIR_NUMBER = 24,          /* no pair has this number */
+    TPL_SIDE = 25,                 /* the side is not TPL_LEFT or TPL_RIGHT */
+    TPL_BUFFER_TOO_SHORT = 26,     /* the buffer is shorter than the text */
+    TPL_BUFFER_BELOW_FILLING = 27, /* the buffer is shorter than TPL_FIELD_BYTES bytes per field */
+    TPL_LINE_NUMBER = 28,          /* no line has this number */
+    TPL_BUFFER_BELOW_LINE = 29,    /* the buffer is shorter than the line */
+    /* Of a solver's reply. */
+    TPL_REPLY_SIZE = 30,           /* over TPL_REPLY_MOST bytes */
+    TPL_LINE_END = 31,             /* the last line does not end */
+    TPL_UNKNOWN_LINE = 32,         /* a line has no known form */
+    TPL_STATUS_LINE = 33,          /* there is not just one s line, or a v line stands before it */
+    TPL_ZERO = 34,                 /* there is no number 0, or a number stands after it */
+    TPL_VARIABLE_NUMBER = 35,      /* a number is no variable's */
+    TPL_VARIABLE_TWICE = 36,       /* a variable is given twice */
+    TPL_PLACE_VALUE = 37,          /* a place of a field has not just one true value */
+    TPL_LETTER_AFTER_BLANK = 38,   /* a letter stands after a blank in a field */
+    TPL_NO_CLASH = 39              /* the filling does not clash */
+};
+
+/* A sheet has a header of 9 bytes, letters, a limit for each field, pairs of templates, and rules. A template is a row of symbols: a letter's
+ * number, or TPL_FIELD_SYMBOL plus a field's number. Letters, fields and pairs count from 0.
+ */
+#define TPL_SHEET_MOST 159   /* no accepted sheet has more bytes */
+#define TPL_LETTERS_MOST 8   /* and no fewer than 1 */
+#define TPL_FIELDS_MOST 6
+#define TPL_PAIRS_MOST 4     /* and no fewer than 1 */
+#define TPL_RULES_MOST 4
+#define TPL_SYMBOLS_MOST 12  /* of one template */
+#define TPL_FIELD_SYMBOL 128 /* the symbol of field 0 */
+
 /* Reads the n bytes of a sheet. Returns 0, with the counts of letters, fields, pairs and rules in counts[0] to counts[3];
  * or minus the number of the first refusal:
- *    1 under 9 bytes          6 pair count           11 limit
- *    2 mark                   7 rule count           12 symbol count
- *    3 version                8 a byte is missing    13 symbol
- *    4 letter count           9 bytes left over      14 width
- *    5 field count           10 letter               15 coefficient
+ *   TPL_UNDER_NINE_BYTES, TPL_MARK, TPL_VERSION, TPL_LETTER_COUNT, TPL_FIELD_COUNT, TPL_PAIR_COUNT, TPL_RULE_COUNT in this order,
+ * or else the first that is met on a walk through the bytes after the header:
+ *   TPL_BYTE_MISSING; TPL_LETTER; TPL_LIMIT; TPL_SYMBOL_COUNT; TPL_SYMBOL; TPL_WIDTH (after the symbols of a pair, left, then right);
+ *   TPL_COEFFICIENT
+ * or else:
+ *   TPL_BYTES_LEFT_OVER
  */
 int64_t tpl_read(const uint8_t *sheet, size_t n, uint64_t counts[4]);
 
-/* A filling gives each field a text. It is 9 bytes per field, in the order of the fields: the text's length, at most the field's limit,
- * then eight places. They hold letter numbers (the first letter of the sheet is 0), and 255 past the length. Of a sheet without fields
- * the filling is empty.
+/* A filling gives each field a text. It is TPL_FIELD_BYTES bytes per field, in the order of the fields: the text's length, at most the field's
+ * limit, then TPL_FIELD_PLACES places. They hold letter numbers (the first letter of the sheet is 0), and TPL_PAST_LENGTH past the length. Of a
+ * sheet without fields the filling is empty.
  */
+#define TPL_FIELD_PLACES 8  /* no limit is above it */
+#define TPL_FIELD_BYTES 9
+#define TPL_FILLING_MOST 54 /* the bytes of TPL_FIELDS_MOST fields: a buffer that is always long enough for a filling */
+#define TPL_PAST_LENGTH 255
 
-/* Checks the m bytes of a filling. Returns 1 for a clash: in every pair both templates spell the same text, and every rule holds.
- * Returns 0 for no clash; or minus the number of the first refusal, which is one of tpl_read's, or else:
- *   20 not 9 bytes per field
- * or else, of the first field that is at fault:
- *   21 length above the limit
- *   22 a letter number that is not below the letter count
- *   23 a place past the length that is not 255
+/* Checks the m bytes of a filling. Returns TPL_CLASH: in every pair both templates spell the same text, and every rule holds. Or it returns
+ * TPL_DOES_NOT_CLASH; or minus the number of the first refusal, which is one of tpl_read's, or else:
+ *   TPL_FILLING_SIZE
+ * or else, of the first field that is at fault, in this order:
+ *   TPL_LENGTH, TPL_LETTER_NUMBER, TPL_PAST_THE_LENGTH
  */
 int64_t tpl_check(const uint8_t *sheet, size_t n, const uint8_t *filling, size_t m);
+#define TPL_CLASH 1
+#define TPL_DOES_NOT_CLASH 0 /* an answer; TPL_NO_CLASH is a refusal of tpl_reply */
 
-/* Spells one template under a filling, in the sheet's letters, into a buffer of cap bytes. Pairs count from 0; side 0 is the left
- * template and side 1 the right one; both may be any numbers. Returns the text's length, with the text in the first bytes of the buffer
- * and the later ones unchanged. No zero byte is added. The text has at most 24 bytes, so a buffer of 24 is always long enough.
+/* Spells one template under a filling, in the sheet's letters, into a buffer of cap bytes. Pairs count from 0; side is TPL_LEFT or TPL_RIGHT;
+ * both may be any numbers. Returns the text's length, with the text in the first bytes of the buffer and the later ones unchanged. No zero
+ * byte is added. A buffer of TPL_TEXT_MOST is always long enough.
  * Or it returns minus the number of the first refusal, which is one of tpl_read's, or else, in this order:
- *   24 no pair has this number
- *   25 side not 0 or 1
- *   20 to 23 as in tpl_check
- *   26 buffer shorter than the text
+ *   TPL_PAIR_NUMBER, TPL_SIDE, those that tpl_check gives of a filling, TPL_BUFFER_TOO_SHORT
  */
 int64_t tpl_spell(const uint8_t *sheet, size_t n, uint64_t pair, uint64_t side, const uint8_t *filling, size_t m, uint8_t *text,
                   size_t cap);
+#define TPL_LEFT 0
+#define TPL_RIGHT 1
+#define TPL_TEXT_MOST 24
 
-/* Searches a sheet for a filling that clashes. Returns 1 if there is one, with such a filling in the first 9 bytes per field of the buffer of
- * cap bytes and the later ones unchanged; where there are several, any of them. Returns 0 if there is none, with no byte changed. A buffer of 54
- * is always long enough. Where many fields of high limits meet it can take some seconds.
+/* Searches a sheet for a filling that clashes. Returns TPL_CLASH if there is one, with such a filling in the first TPL_FIELD_BYTES bytes per field
+ * of the buffer of cap bytes and the later ones unchanged; where there are several, any of them. Returns TPL_APART if there is none, with no byte
+ * changed. A buffer of TPL_FILLING_MOST is always long enough. The slowest sheets that are known take a quarter of a second.
  * Or it returns minus the number of the first refusal, which is one of tpl_read's, or else:
- *   27 buffer shorter than 9 bytes per field
+ *   TPL_BUFFER_BELOW_FILLING
  */
 int64_t tpl_search(const uint8_t *sheet, size_t n, uint8_t *filling, size_t cap);
+#define TPL_APART 0
 
 /* A sheet's clause file asks a SAT solver for a clash. It is text in the DIMACS CNF form: line 0 is "p cnf", the number of variables and
  * the number of clauses; then each clause is a line. Every line ends in a line feed.
  */
+#define TPL_LINE_MOST 80 /* no line has more bytes, its line feed counted */
 
 /* Counts what is in a sheet's clause file. Returns 0, with the number of variables in counts[0], the number C of clauses in counts[1], and
- * (C + 1) * 80 in counts[2], which is at least the file's size in bytes; or minus the number of the first refusal, which is one of
+ * (C + 1) * TPL_LINE_MOST in counts[2], which is at least the file's size in bytes; or minus the number of the first refusal, which is one of
  * tpl_read's.
  */
 int64_t tpl_count(const uint8_t *sheet, size_t n, uint64_t counts[3]);
 
 /* Writes one line of a sheet's clause file, with its line feed, into a buffer of cap bytes. Lines count from 0 to C, the number of clauses;
  * line may be any number. Returns the line's length, with the line in the first bytes of the buffer and the later ones unchanged. No zero
- * byte is added. A buffer of 80 is always long enough.
+ * byte is added. A buffer of TPL_LINE_MOST is always long enough.
  * Or it returns minus the number of the first refusal, which is one of tpl_read's, or else, in this order:
- *   28 no line has this number
- *   29 buffer shorter than the line
+ *   TPL_LINE_NUMBER, TPL_BUFFER_BELOW_LINE
  */
 int64_t tpl_line(const uint8_t *sheet, size_t n, uint64_t line, uint8_t *text, size_t cap);
 
 /* Reads the m bytes of a SAT solver's reply to a sheet's clause file, and believes none of it: what is accepted is a filling that clashes.
  * A reply is text. Lines that start with "c" are skipped; one line is "s SATISFIABLE"; the others are "v" and numbers, each after one
  * space. A number is a variable's, with a minus where the variable is false, and the last one is 0. Variables that are not listed are false.
- * Returns 0, with the filling in the first 9 bytes per field of the buffer of cap bytes and the later ones unchanged. A buffer of 54 is
- * always long enough.
- * Or it returns minus the number of the first refusal, which is one of tpl_read's, or else, in this order, each over the whole text:
- *   27 buffer shorter than 9 bytes per field        34 no number 0, or a number after it
- *   30 over 65,536 bytes                            35 a number of no variable
- *   31 the last line does not end                   36 a variable given twice
- *   32 a line of no known form                      37 a place of a field without just one true value
- *   33 not just one s line, or a v line before it   38 a letter after a blank in a field
- *                                                   39 the filling does not clash
+ * Returns 0, with the filling in the first TPL_FIELD_BYTES bytes per field of the buffer of cap bytes and the later ones unchanged. A buffer of
+ * TPL_FILLING_MOST is always long enough.
+ * Or it returns minus the number of the first refusal, which is one of tpl_read's, or else, in this order:
+ *   TPL_BUFFER_BELOW_FILLING, TPL_REPLY_SIZE
+ * or else, in this order, each over the whole text:
+ *   TPL_LINE_END, TPL_UNKNOWN_LINE, TPL_STATUS_LINE, TPL_ZERO, TPL_VARIABLE_NUMBER, TPL_VARIABLE_TWICE, TPL_PLACE_VALUE,
+ *   TPL_LETTER_AFTER_BLANK, TPL_NO_CLASH
  */
 int64_t tpl_reply(const uint8_t *sheet, size_t n, const uint8_t *reply, size_t m, uint8_t *filling, size_t cap);
+#define TPL_REPLY_MOST 65536
 
 #ifdef __cplusplus
 }

@@ -15,6 +15,7 @@ mod fillings;
 #[allow(dead_code)]
 mod hard;
 #[path = "../../tests/outside/lent.rs"]
+#[allow(dead_code)]
 mod lent;
 #[path = "../../tests/outside/planted.rs"]
 #[allow(dead_code)]
@@ -167,8 +168,9 @@ impl Climber {
         let mut since = Instant::now();
         while tried < PATIENCE && since.elapsed() < self.patience && self.has_time() {
             tried += 1;
-            let Some(next) = steps::step(&mut self.random, &here) else {
-                continue;
+            let next = match steps::step(&mut self.random, &here) {
+                Some(next) => next,
+                None => continue,
             };
             let level = top.time * LEVEL_PERCENT / 100;
             let next = self.timed(next, level);

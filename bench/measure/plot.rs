@@ -49,7 +49,7 @@ fn decades(panels: &[Panel]) -> (i32, i32) {
 
 /// The whole plot.
 pub fn svg(title: &str, panels: &[Panel]) -> String {
-    let rows = panels.len().div_ceil(PANELS_IN_A_ROW);
+    let rows = (panels.len() + PANELS_IN_A_ROW - 1) / PANELS_IN_A_ROW;
     let (width, height) = (
         PITCH.0 * PANELS_IN_A_ROW as f64,
         HEAD + PITCH.1 * rows as f64,

@@ -40,16 +40,16 @@ fn applied(function: &str, terms: &[String], none: &str) -> String {
 
 /// The regular language of one letter: letters that follow on each other are a range.
 fn letters(sheet: &Sheet) -> String {
-    let runs = sheet
-        .letters
-        .chunk_by(|&before, &letter| before + 1 == letter);
-    let ranges = runs.map(|run| match run {
-        [letter] => format!("(str.to_re {})", quoted(*letter)),
-        _ => format!(
-            "(re.range {} {})",
-            quoted(run[0]),
-            quoted(run[run.len() - 1])
-        ),
+    let mut runs: Vec<(u8, u8)> = Vec::new();
+    for &letter in &sheet.letters {
+        match runs.last_mut() {
+            Some(run) if run.1 + 1 == letter => run.1 = letter,
+            _ => runs.push((letter, letter)),
+        }
+    }
+    let ranges = runs.into_iter().map(|(first, last)| match first == last {
+        true => format!("(str.to_re {})", quoted(first)),
+        false => format!("(re.range {} {})", quoted(first), quoted(last)),
     });
     applied("re.union", &ranges.collect::<Vec<_>>(), "re.none")
 }

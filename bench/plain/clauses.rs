@@ -17,7 +17,7 @@ mod numbers;
 use numbers::Numbers;
 use std::fs::File;
 use std::io::{self, BufWriter, Read, Write};
-use std::os::fd::AsFd;
+use std::os::unix::io::AsFd;
 use writer::{Clauses, Literal, Variable};
 
 const BUFFER_BYTES: usize = 65_536;
@@ -55,7 +55,7 @@ fn main() -> io::Result<()> {
         out,
         by_hand: std::env::args()
             .nth(1)
-            .is_some_and(|word| word == "by-hand"),
+            .map_or(false, |word| word == "by-hand"),
     };
     printer.sheet(&sheet);
     printer.out.flush()

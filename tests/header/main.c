@@ -1,14 +1,15 @@
 /* include/lunthegyr.h against the static library: each call on document 01's sheet P, with an answer and with refusals, which change
- * nothing that was lent. */
+ * nothing that was lent; the header's numbers against document 01's; and buffers of the named sizes on the largest sheets of
+ * tests/clauses.d and tests/search.d. To be run in the repository's folder. */
 #include <stdio.h>
 #include <string.h>
 #include "lunthegyr.h"
 
 /* P has the first 15 bytes. */
 static const uint8_t sheet[16] = { 'T', 'P', 'L', 0, 1, 1, 1, 1, 0, 'A', 1, 1, 1, 128, 0, 0 };
-static const uint8_t is_a[9] = { 1, 0, 255, 255, 255, 255, 255, 255, 255 };
-static const uint8_t is_empty[9] = { 0, 255, 255, 255, 255, 255, 255, 255, 255 };
-static const uint8_t too_long[9] = { 2, 0, 0, 255, 255, 255, 255, 255, 255 };
+static const uint8_t is_a[TPL_FIELD_BYTES] = { 1, 0, 255, 255, 255, 255, 255, 255, 255 };
+static const uint8_t is_empty[TPL_FIELD_BYTES] = { 0, 255, 255, 255, 255, 255, 255, 255, 255 };
+static const uint8_t too_long[TPL_FIELD_BYTES] = { 2, 0, 0, 255, 255, 255, 255, 255, 255 };
 
 static int all_passed = 1;
 
@@ -19,35 +20,66 @@ static void expect(int holds, const char *what) {
     }
 }
 
+/* Document 01's numbers. */
+static const struct { int constant, number; } numbers[] = {
+    { TPL_UNDER_NINE_BYTES, 1 }, { TPL_MARK, 2 }, { TPL_VERSION, 3 }, { TPL_LETTER_COUNT, 4 }, { TPL_FIELD_COUNT, 5 },
+    { TPL_PAIR_COUNT, 6 }, { TPL_RULE_COUNT, 7 }, { TPL_BYTE_MISSING, 8 }, { TPL_BYTES_LEFT_OVER, 9 }, { TPL_LETTER, 10 },
+    { TPL_LIMIT, 11 }, { TPL_SYMBOL_COUNT, 12 }, { TPL_SYMBOL, 13 }, { TPL_WIDTH, 14 }, { TPL_COEFFICIENT, 15 },
+    { TPL_FILLING_SIZE, 20 }, { TPL_LENGTH, 21 }, { TPL_LETTER_NUMBER, 22 }, { TPL_PAST_THE_LENGTH, 23 },
+    { TPL_PAIR_NUMBER, 24 }, { TPL_SIDE, 25 }, { TPL_BUFFER_TOO_SHORT, 26 },
+    { TPL_BUFFER_BELOW_FILLING, 27 }, { TPL_LINE_NUMBER, 28 }, { TPL_BUFFER_BELOW_LINE, 29 },
+    { TPL_REPLY_SIZE, 30 }, { TPL_LINE_END, 31 }, { TPL_UNKNOWN_LINE, 32 }, { TPL_STATUS_LINE, 33 }, { TPL_ZERO, 34 },
+    { TPL_VARIABLE_NUMBER, 35 }, { TPL_VARIABLE_TWICE, 36 }, { TPL_PLACE_VALUE, 37 }, { TPL_LETTER_AFTER_BLANK, 38 },
+    { TPL_NO_CLASH, 39 },
+    { TPL_LETTERS_MOST, 8 }, { TPL_FIELDS_MOST, 6 }, { TPL_PAIRS_MOST, 4 }, { TPL_RULES_MOST, 4 },
+    { TPL_SYMBOLS_MOST, 12 }, { TPL_FIELD_SYMBOL, 128 },
+    { TPL_FIELD_PLACES, 8 }, { TPL_FIELD_BYTES, 9 }, { TPL_FILLING_MOST, 9 * 6 }, { TPL_PAST_LENGTH, 255 },
+    { TPL_LEFT, 0 }, { TPL_RIGHT, 1 }, { TPL_TEXT_MOST, 24 }, { TPL_LINE_MOST, 80 }, { TPL_REPLY_MOST, 65536 },
+    /* The header, and then the most letters, limits, pairs and rules. */
+    { TPL_SHEET_MOST, 9 + 8 + 6 + 4 * (2 + 12 + 12) + 4 * (6 + 2) },
+    /* These are the engine's own. */
+    { TPL_CLASH, 1 }, { TPL_DOES_NOT_CLASH, 0 }, { TPL_APART, 0 }
+};
+
+static void naming(void) {
+    for (size_t i = 0; i < sizeof numbers / sizeof numbers[0]; i++) {
+        if (numbers[i].constant != numbers[i].number) {
+            printf("C header: FAILED: a constant is %d where document 01 has %d\n", numbers[i].constant, numbers[i].number);
+            all_passed = 0;
+        }
+    }
+}
+
 static int is(const uint64_t *counts, uint64_t l, uint64_t v, uint64_t e, uint64_t r) {
     return counts[0] == l && counts[1] == v && counts[2] == e && counts[3] == r;
 }
 
 static void reading(void) {
     uint64_t counts[4] = { 5, 6, 7, 8 };
-    expect(tpl_read(sheet, 16, counts) == -9, "a 16th byte on P is refused with 9");
+    expect(tpl_read(sheet, 16, counts) == -TPL_BYTES_LEFT_OVER, "a 16th byte on P is refused with 9");
     expect(is(counts, 5, 6, 7, 8), "a refusal leaves the counts");
     expect(tpl_read(sheet, 15, counts) == 0, "P is read");
     expect(is(counts, 1, 1, 1, 0), "P's counts are 1 1 1 0");
 }
 
 static void checking(void) {
-    expect(tpl_check(sheet, 15, is_a, 9) == 1, "X=A clashes in P");
-    expect(tpl_check(sheet, 15, is_empty, 9) == 0, "an empty X does not clash in P");
-    expect(tpl_check(sheet, 16, is_a, 9) == -9, "checking reads the sheet first");
-    expect(tpl_check(sheet, 15, is_a, 8) == -20, "eight bytes for one field are refused with 20");
-    expect(tpl_check(sheet, 15, too_long, 9) == -21, "a length of 2 for a limit of 1 is refused with 21");
+    expect(tpl_check(sheet, 15, is_a, 9) == TPL_CLASH, "X=A clashes in P");
+    expect(tpl_check(sheet, 15, is_empty, 9) == TPL_DOES_NOT_CLASH, "an empty X does not clash in P");
+    expect(tpl_check(sheet, 16, is_a, 9) == -TPL_BYTES_LEFT_OVER, "checking reads the sheet first");
+    expect(tpl_check(sheet, 15, is_a, 8) == -TPL_FILLING_SIZE, "eight bytes for one field are refused with 20");
+    expect(tpl_check(sheet, 15, too_long, 9) == -TPL_LENGTH, "a length of 2 for a limit of 1 is refused with 21");
 }
 
 static void spelling(void) {
-    uint8_t text[24];
+    uint8_t text[TPL_TEXT_MOST];
     memset(text, '.', sizeof text);
-    expect(tpl_spell(sheet, 15, 1, 0, is_a, 9, text, 24) == -24, "pair 1 of P is refused with 24");
-    expect(tpl_spell(sheet, 15, 0, UINT64_MAX, is_a, 9, text, 24) == -25, "a side that is not 0 or 1 is refused with 25");
-    expect(tpl_spell(sheet, 15, 0, 0, is_a, 9, text, 0) == -26, "a buffer of no bytes is refused with 26");
+    expect(tpl_spell(sheet, 15, 1, TPL_LEFT, is_a, 9, text, sizeof text) == -TPL_PAIR_NUMBER, "pair 1 of P is refused with 24");
+    expect(tpl_spell(sheet, 15, 0, UINT64_MAX, is_a, 9, text, sizeof text) == -TPL_SIDE, "a side that is not 0 or 1 is refused with 25");
+    expect(tpl_spell(sheet, 15, 0, TPL_LEFT, is_a, 9, text, 0) == -TPL_BUFFER_TOO_SHORT, "a buffer of no bytes is refused with 26");
     expect(memcmp(text, "........................", sizeof text) == 0, "a refusal leaves the text");
-    expect(tpl_spell(sheet, 15, 0, 0, is_empty, 9, text, 0) == 0, "an empty text fits in no bytes");
-    expect(tpl_spell(sheet, 15, 0, 0, is_a, 9, text, 24) == 1, "X=A has length 1");
+    expect(tpl_spell(sheet, 15, 0, TPL_LEFT, is_empty, 9, text, 0) == 0, "an empty text fits in no bytes");
+    expect(tpl_spell(sheet, 15, 0, TPL_RIGHT, is_empty, 9, text, 0) == -TPL_BUFFER_TOO_SHORT, "the right template is A also where X is empty");
+    expect(tpl_spell(sheet, 15, 0, TPL_LEFT, is_a, 9, text, sizeof text) == 1, "X=A has length 1");
     expect(text[0] == 'A' && text[1] == '.', "X=A is spelled A, and the next byte stays");
 }
 
@@ -56,29 +88,29 @@ static const uint8_t apart[15] = { 'T', 'P', 'L', 0, 1, 1, 1, 1, 0, 'A', 0, 1, 1
 static const uint8_t no_fields[12] = { 'T', 'P', 'L', 0, 1, 1, 0, 1, 0, 'A', 0, 0 };
 
 static void searching(void) {
-    uint8_t filling[54], before[54];
+    uint8_t filling[TPL_FILLING_MOST], before[TPL_FILLING_MOST];
     memset(before, '.', sizeof before);
     memcpy(filling, before, sizeof filling);
-    expect(tpl_search(sheet, 16, filling, 54) == -9, "searching reads the sheet first");
-    expect(tpl_search(sheet, 16, filling, 0) == -9, "9 comes before 27");
-    expect(tpl_search(sheet, 15, filling, 8) == -27, "eight bytes for one field are refused with 27");
-    expect(tpl_search(apart, 15, filling, 8) == -27, "27 comes before apart");
-    expect(tpl_search(apart, 15, filling, 54) == 0, "P with limit 0 is apart");
-    expect(tpl_search(no_fields, 12, filling, 0) == 1, "a sheet without fields clashes in no bytes");
+    expect(tpl_search(sheet, 16, filling, sizeof filling) == -TPL_BYTES_LEFT_OVER, "searching reads the sheet first");
+    expect(tpl_search(sheet, 16, filling, 0) == -TPL_BYTES_LEFT_OVER, "9 comes before 27");
+    expect(tpl_search(sheet, 15, filling, 8) == -TPL_BUFFER_BELOW_FILLING, "eight bytes for one field are refused with 27");
+    expect(tpl_search(apart, 15, filling, 8) == -TPL_BUFFER_BELOW_FILLING, "27 comes before apart");
+    expect(tpl_search(apart, 15, filling, sizeof filling) == TPL_APART, "P with limit 0 is apart");
+    expect(tpl_search(no_fields, 12, filling, 0) == TPL_CLASH, "a sheet without fields clashes in no bytes");
     expect(memcmp(filling, before, sizeof filling) == 0, "a refusal, apart and no fields leave the search's buffer");
-    expect(tpl_search(sheet, 15, filling, 54) == 1, "P clashes");
+    expect(tpl_search(sheet, 15, filling, sizeof filling) == TPL_CLASH, "P clashes");
     expect(memcmp(filling, is_a, sizeof is_a) == 0, "its only clash is X=A");
     expect(memcmp(filling + 9, before, sizeof filling - 9) == 0, "the bytes after a clash stay");
     memcpy(filling, before, sizeof filling);
-    expect(tpl_search(sheet, 15, filling, 9) == 1, "nine bytes are enough for it");
+    expect(tpl_search(sheet, 15, filling, 9) == TPL_CLASH, "nine bytes are enough for it");
     expect(memcmp(filling, is_a, sizeof is_a) == 0, "the clash is again X=A");
     expect(memcmp(filling + 9, before, sizeof filling - 9) == 0, "the bytes after the buffer stay");
-    expect(tpl_check(sheet, 15, filling, 9) == 1, "what is found checks as a clash");
+    expect(tpl_check(sheet, 15, filling, 9) == TPL_CLASH, "what is found checks as a clash");
 }
 
 static void counting(void) {
     uint64_t counts[4] = { 5, 6, 7, 8 };
-    expect(tpl_count(sheet, 16, counts) == -9, "counting reads the sheet first");
+    expect(tpl_count(sheet, 16, counts) == -TPL_BYTES_LEFT_OVER, "counting reads the sheet first");
     expect(is(counts, 5, 6, 7, 8), "a refusal leaves the clause counts");
     expect(tpl_count(sheet, 15, counts) == 0, "P's clauses are counted");
     expect(is(counts, 6, 8, 720, 8), "P has 6 variables, 8 clauses and an allowance of 720, and no fourth count is written");
@@ -90,18 +122,18 @@ static const char *const lines[9] = {
 };
 
 static void writing(void) {
-    uint8_t text[80], before[80];
+    uint8_t text[TPL_LINE_MOST], before[TPL_LINE_MOST];
     memset(before, '.', sizeof before);
     memcpy(text, before, sizeof text);
-    expect(tpl_line(sheet, 16, 0, text, 80) == -9, "writing a line reads the sheet first");
-    expect(tpl_line(sheet, 15, 9, text, 80) == -28, "line 9 of P is refused with 28");
-    expect(tpl_line(sheet, 15, UINT64_MAX, text, 0) == -28, "28 comes before 29");
-    expect(tpl_line(sheet, 15, 0, text, 9) == -29, "nine bytes for line 0 are refused with 29");
+    expect(tpl_line(sheet, 16, 0, text, sizeof text) == -TPL_BYTES_LEFT_OVER, "writing a line reads the sheet first");
+    expect(tpl_line(sheet, 15, 9, text, sizeof text) == -TPL_LINE_NUMBER, "line 9 of P is refused with 28");
+    expect(tpl_line(sheet, 15, UINT64_MAX, text, 0) == -TPL_LINE_NUMBER, "28 comes before 29");
+    expect(tpl_line(sheet, 15, 0, text, 9) == -TPL_BUFFER_BELOW_LINE, "nine bytes for line 0 are refused with 29");
     expect(memcmp(text, before, sizeof text) == 0, "a refusal leaves the line's buffer");
     for (uint64_t n = 0; n < 9; n++) {
         size_t length = strlen(lines[n]);
         memcpy(text, before, sizeof text);
-        expect(tpl_line(sheet, 15, n, text, n % 2 ? 80 : length) == (int64_t)length, "a line of P has its length");
+        expect(tpl_line(sheet, 15, n, text, n % 2 ? sizeof text : length) == (int64_t)length, "a line of P has its length");
         expect(memcmp(text, lines[n], length) == 0, "a line of P is as it must be");
         expect(memcmp(text + length, before, sizeof text - length) == 0, "the bytes after a line stay");
     }
@@ -113,34 +145,35 @@ static int64_t reply(size_t n, const char *text, uint8_t *filling, size_t cap) {
 }
 
 /* Replies that are refused, each with its number. */
-static const struct { int64_t number; const char *text; } refused[9] = {
-    { 31, "s SATISFIABLE\nv 1 0" },
-    { 32, "s UNSATISFIABLE\n" },
-    { 33, "" },
-    { 34, "s SATISFIABLE\nv 1\n" },
-    { 35, "s SATISFIABLE\nv 1 7 0\n" },
-    { 36, "s SATISFIABLE\nv 1 -1 0\n" },
-    { 37, "s SATISFIABLE\nv 1 2 0\n" },
-    { 37, "s SATISFIABLE\nv 0\n" },
-    { 39, "s SATISFIABLE\nv 2 0\n" }
+static const struct { enum tpl_refusal refusal; const char *text; } refused[9] = {
+    { TPL_LINE_END, "s SATISFIABLE\nv 1 0" },
+    { TPL_UNKNOWN_LINE, "s UNSATISFIABLE\n" },
+    { TPL_STATUS_LINE, "" },
+    { TPL_ZERO, "s SATISFIABLE\nv 1\n" },
+    { TPL_VARIABLE_NUMBER, "s SATISFIABLE\nv 1 7 0\n" },
+    { TPL_VARIABLE_TWICE, "s SATISFIABLE\nv 1 -1 0\n" },
+    { TPL_PLACE_VALUE, "s SATISFIABLE\nv 1 2 0\n" },
+    { TPL_PLACE_VALUE, "s SATISFIABLE\nv 0\n" },
+    { TPL_NO_CLASH, "s SATISFIABLE\nv 2 0\n" }
 };
 
 static void replying(void) {
     static const char good[] = "c\ns SATISFIABLE\nv 1 -2 3\nv -4 -5 6 0\n";
-    static uint8_t large[65537];
-    uint8_t filling[54], before[54];
+    static uint8_t large[TPL_REPLY_MOST + 1];
+    uint8_t filling[TPL_FILLING_MOST], before[TPL_FILLING_MOST];
     memset(before, '.', sizeof before);
     memcpy(filling, before, sizeof filling);
     memset(large, 'c', sizeof large);
-    expect(reply(16, good, filling, 54) == -9, "reading a reply reads the sheet first");
-    expect(reply(15, good, filling, 8) == -27, "eight bytes for one field's filling are refused with 27");
-    expect(tpl_reply(sheet, 15, large, 65537, filling, 54) == -30, "65,537 bytes are refused with 30");
-    expect(tpl_reply(sheet, 15, large, 65536, filling, 54) == -31, "65,536 bytes are not");
+    expect(reply(16, good, filling, sizeof filling) == -TPL_BYTES_LEFT_OVER, "reading a reply reads the sheet first");
+    expect(reply(15, good, filling, 8) == -TPL_BUFFER_BELOW_FILLING, "eight bytes for one field's filling are refused with 27");
+    expect(tpl_reply(sheet, 15, large, TPL_REPLY_MOST + 1, filling, sizeof filling) == -TPL_REPLY_SIZE, "65,537 bytes are refused with 30");
+    expect(tpl_reply(sheet, 15, large, TPL_REPLY_MOST, filling, sizeof filling) == -TPL_LINE_END, "65,536 bytes are not");
     for (size_t i = 0; i < 9; i++) {
-        expect(reply(15, refused[i].text, filling, 54) == -refused[i].number, "a faulty reply is refused with its number");
+        int64_t status = reply(15, refused[i].text, filling, sizeof filling);
+        expect(status == -(int64_t)refused[i].refusal, "a faulty reply is refused with its number");
     }
     expect(memcmp(filling, before, sizeof filling) == 0, "a refusal leaves the filling's buffer");
-    expect(reply(15, good, filling, 54) == 0, "a reply to P is accepted");
+    expect(reply(15, good, filling, sizeof filling) == 0, "a reply to P is accepted");
     expect(memcmp(filling, is_a, sizeof is_a) == 0, "its filling is X=A");
     expect(memcmp(filling + 9, before, sizeof filling - 9) == 0, "the bytes after a filling stay");
     memcpy(filling, before, sizeof filling);
@@ -148,7 +181,110 @@ static void replying(void) {
     expect(memcmp(filling, is_a, sizeof is_a) == 0, "the filling is again X=A");
 }
 
+/* Reads a file of hexadecimal digits, with comments on lines that start with #, into a buffer for a sheet. Returns the number of bytes, or 0
+ * where the file cannot be read or has too many. */
+static size_t read_digits(const char *name, uint8_t large[TPL_SHEET_MOST]) {
+    char line[200];
+    unsigned byte;
+    size_t n = 0;
+    FILE *file = fopen(name, "r");
+    if (file == NULL) {
+        return 0;
+    }
+    while (fgets(line, sizeof line, file) != NULL) {
+        int at = 0, used = 0;
+        while (line[0] != '#' && sscanf(line + at, " %2x%n", &byte, &used) == 1) {
+            if (n == TPL_SHEET_MOST) {
+                fclose(file);
+                return 0;
+            }
+            large[n++] = (uint8_t)byte;
+            at += used;
+        }
+    }
+    fclose(file);
+    return n;
+}
+
+/* Every line fits in TPL_LINE_MOST bytes, and the lines together in the size allowance. */
+static void all_lines(const uint8_t *large, size_t n) {
+    uint8_t text[TPL_LINE_MOST];
+    uint64_t counts[3] = { 0, 0, 0 }, size = 0;
+    expect(tpl_count(large, n, counts) == 0 && counts[1] > 0, "a large sheet's clauses are counted");
+    for (uint64_t line = 0; line <= counts[1]; line++) {
+        int64_t length = tpl_line(large, n, line, text, sizeof text);
+        expect(length > 0 && length <= TPL_LINE_MOST && text[length - 1] == '\n', "a line of a large sheet fits");
+        size += length > 0 ? (uint64_t)length : 0;
+    }
+    expect(tpl_line(large, n, counts[1] + 1, text, sizeof text) == -TPL_LINE_NUMBER, "no line comes after the last clause");
+    expect(counts[2] == (counts[1] + 1) * TPL_LINE_MOST && size <= counts[2], "the lines are no longer than the size allowance");
+}
+
+/* Every template's text under a filling that clashes fits in TPL_TEXT_MOST bytes, and has the length that is due. */
+static void all_texts(const uint8_t *large, size_t n, const uint8_t *filling, int64_t length) {
+    uint8_t left[TPL_TEXT_MOST], right[TPL_TEXT_MOST];
+    for (uint64_t pair = 0; pair < TPL_PAIRS_MOST; pair++) {
+        expect(tpl_spell(large, n, pair, TPL_LEFT, filling, TPL_FILLING_MOST, left, sizeof left) == length, "a left text fits");
+        expect(tpl_spell(large, n, pair, TPL_RIGHT, filling, TPL_FILLING_MOST, right, sizeof right) == length, "a right text fits");
+        expect(memcmp(left, right, (size_t)length) == 0, "the texts of a pair are the same");
+        expect(tpl_spell(large, n, pair, TPL_LEFT, filling, TPL_FILLING_MOST, left, (size_t)length - 1) == -TPL_BUFFER_TOO_SHORT,
+               "one byte less for a text is refused with 26");
+    }
+}
+
+/* A large sheet fits in the buffers. `answer` is what the search must say of it, and `length` that of each text where it is a clash. */
+static void fits(const char *name, int64_t answer, int64_t length) {
+    uint8_t large[TPL_SHEET_MOST], filling[TPL_FILLING_MOST];
+    uint64_t counts[4] = { 0, 0, 0, 0 };
+    size_t n = read_digits(name, large);
+    if (n == 0) {
+        printf("C header: FAILED: %s cannot be read, or has more than TPL_SHEET_MOST bytes\n", name);
+        all_passed = 0;
+        return;
+    }
+    expect(tpl_read(large, n, counts) == 0, "a large sheet is read");
+    expect(counts[1] == TPL_FIELDS_MOST && counts[2] == TPL_PAIRS_MOST, "a large sheet has the most fields and pairs");
+    expect(tpl_search(large, n, filling, TPL_FILLING_MOST - 1) == -TPL_BUFFER_BELOW_FILLING, "one byte less for a filling is refused with 27");
+    expect(tpl_search(large, n, filling, sizeof filling) == answer, "a large sheet is searched");
+    all_lines(large, n);
+    if (answer == TPL_CLASH) {
+        expect(tpl_check(large, n, filling, sizeof filling) == TPL_CLASH, "the filling of a large sheet clashes");
+        all_texts(large, n, filling, length);
+    }
+}
+
+/* The largest sheets have TPL_SHEET_MOST bytes; a byte more is refused. */
+static void largest(void) {
+    static const char name[] = "tests/clauses.d/largest_sheet.sheet";
+    uint8_t large[TPL_SHEET_MOST + 1];
+    uint64_t counts[4] = { 0, 0, 0, 0 };
+    memset(large, 0, sizeof large);
+    expect(read_digits(name, large) == TPL_SHEET_MOST, "a largest sheet has TPL_SHEET_MOST bytes");
+    expect(tpl_read(large, TPL_SHEET_MOST, counts) == 0, "a largest sheet is read");
+    expect(is(counts, TPL_LETTERS_MOST, TPL_FIELDS_MOST, TPL_PAIRS_MOST, TPL_RULES_MOST), "a largest sheet has the most of everything");
+    expect(tpl_read(large, TPL_SHEET_MOST + 1, counts) == -TPL_BYTES_LEFT_OVER, "a byte more is refused with 9");
+}
+
+/* A reply that fills all places of all fields: sheet all_full has one letter, so that the variable of a place's letter is odd. */
+static void fullest_reply(void) {
+    uint8_t large[TPL_SHEET_MOST], filling[TPL_FILLING_MOST];
+    char text[500];
+    int m = snprintf(text, sizeof text, "s SATISFIABLE\nv");
+    size_t n = read_digits("tests/search.d/all_full.sheet", large);
+    for (int place = 0; place < TPL_FIELDS_MOST * TPL_FIELD_PLACES; place++) {
+        m += snprintf(text + m, sizeof text - (size_t)m, " %d", 2 * place + 1);
+    }
+    m += snprintf(text + m, sizeof text - (size_t)m, " 0\n");
+    expect(tpl_reply(large, n, (const uint8_t *)text, (size_t)m, filling, TPL_FILLING_MOST - 1) == -TPL_BUFFER_BELOW_FILLING,
+           "one byte less for a reply's filling is refused with 27");
+    expect(tpl_reply(large, n, (const uint8_t *)text, (size_t)m, filling, sizeof filling) == 0, "a reply that fills all places is accepted");
+    for (int field = 0; field < TPL_FIELDS_MOST; field++) {
+        expect(filling[field * TPL_FIELD_BYTES] == TPL_FIELD_PLACES, "every field is full");
+    }
+}
+
 int main(void) {
+    naming();
     reading();
     checking();
     spelling();
@@ -156,9 +292,15 @@ int main(void) {
     counting();
     writing();
     replying();
+    largest();
+    fits("tests/clauses.d/largest_sheet.sheet", TPL_APART, 0);
+    fits("tests/clauses.d/most_clauses.sheet", TPL_APART, 0);
+    fits("tests/search.d/largest_sheet.sheet", TPL_CLASH, 12);
+    fits("tests/search.d/all_full.sheet", TPL_CLASH, TPL_TEXT_MOST);
+    fullest_reply();
     if (!all_passed) {
         return 1;
     }
-    puts("C header: the seven calls answer as they must on P");
+    puts("C header: the seven calls answer as they must on P, its constants are document 01's numbers, and buffers of its sizes are enough");
     return 0;
 }

@@ -2,7 +2,7 @@
 //! looked at after it.
 
 use crate::lent::Lent;
-use crate::speller::Spelling;
+use crate::speller::{Spelling, FIELD_BYTES};
 use std::fmt;
 
 extern "C" {
@@ -66,6 +66,9 @@ impl<T: fmt::Debug> fmt::Display for Outcome<T> {
     }
 }
 
+/// Where a sheet has its field count.
+const FIELD_COUNT_OFFSET: usize = 6;
+
 /// What the counts hold before a call; `tpl_count` is lent the first three.
 pub const COUNTS_BEFORE: [u64; 4] = [
     u64::MAX,
@@ -78,6 +81,12 @@ pub const COUNTS_BEFORE: [u64; 4] = [
 /// and never one byte twice in a row.
 pub fn buffer_before(room: usize) -> Vec<u8> {
     (0..room).map(|place| 128 + (place % 125) as u8).collect()
+}
+
+/// How many bytes a filling of an accepted sheet has.
+pub fn filling_bytes(sheet: &[u8]) -> usize {
+    let fields = sheet.get(FIELD_COUNT_OFFSET);
+    fields.map_or(0, |&fields| FIELD_BYTES * usize::from(fields))
 }
 
 /// The byte after a sheet is 0 and the one after a filling is 255. The format allows these nearly
@@ -103,21 +112,22 @@ const fn margin(first: u8) -> [u8; 16] {
 
 /// Calls `tpl_read` on a copy of `sheet`.
 pub fn read(sheet: &[u8]) -> Outcome<u64> {
-    let mut bytes = Lent::new(sheet, &SHEET_MARGIN);
-    let mut counts = Lent::new(&COUNTS_BEFORE, &COUNTS_MARGIN);
+    let mut bytes = Lent::to_read(sheet, &SHEET_MARGIN);
+    let mut counts = Lent::to_write(&COUNTS_BEFORE, &COUNTS_MARGIN);
     // The pointers lead to `sheet.len()` bytes and to four numbers.
     let status = unsafe { tpl_read(bytes.pointer(), sheet.len(), counts.pointer()) };
+    let written = if status == 0 { 4 } else { 0 };
     Outcome {
         status,
-        lent: counts.content().to_vec(),
+        lent: counts.after(written),
         rest_unchanged: bytes.unchanged() && counts.margins_unchanged(),
     }
 }
 
 /// Calls `tpl_check` on copies of `sheet` and `filling`. It may write nothing.
 pub fn check(sheet: &[u8], filling: &[u8]) -> Outcome<u8> {
-    let mut bytes = Lent::new(sheet, &SHEET_MARGIN);
-    let mut fields = Lent::new(filling, &FILLING_MARGIN);
+    let mut bytes = Lent::to_read(sheet, &SHEET_MARGIN);
+    let mut fields = Lent::to_read(filling, &FILLING_MARGIN);
     // The pointers lead to `sheet.len()` and `filling.len()` bytes.
     let status = unsafe {
         tpl_check(
@@ -136,9 +146,9 @@ pub fn check(sheet: &[u8], filling: &[u8]) -> Outcome<u8> {
 
 /// Calls `tpl_spell` on copies of the sheet and the filling.
 pub fn spell(asked: Spelling) -> Outcome<u8> {
-    let mut bytes = Lent::new(asked.sheet, &SHEET_MARGIN);
-    let mut fields = Lent::new(asked.filling, &FILLING_MARGIN);
-    let mut text = Lent::new(&buffer_before(asked.room), &WRITTEN_MARGIN);
+    let mut bytes = Lent::to_read(asked.sheet, &SHEET_MARGIN);
+    let mut fields = Lent::to_read(asked.filling, &FILLING_MARGIN);
+    let mut text = Lent::to_write(&buffer_before(asked.room), &WRITTEN_MARGIN);
     // The pointers lead to as many bytes as the number after each says.
     let status = unsafe {
         tpl_spell(
@@ -154,55 +164,57 @@ pub fn spell(asked: Spelling) -> Outcome<u8> {
     };
     Outcome {
         status,
-        lent: text.content().to_vec(),
+        lent: text.after(status.max(0) as usize),
         rest_unchanged: bytes.unchanged() && fields.unchanged() && text.margins_unchanged(),
     }
 }
 
 /// Calls `tpl_search` on a copy of `sheet`, with a buffer of `room` bytes.
 pub fn search(sheet: &[u8], room: usize) -> Outcome<u8> {
-    let mut bytes = Lent::new(sheet, &SHEET_MARGIN);
-    let mut filling = Lent::new(&buffer_before(room), &WRITTEN_MARGIN);
+    let mut bytes = Lent::to_read(sheet, &SHEET_MARGIN);
+    let mut filling = Lent::to_write(&buffer_before(room), &WRITTEN_MARGIN);
     // The pointers lead to `sheet.len()` and `room` bytes.
     let status = unsafe { tpl_search(bytes.pointer(), sheet.len(), filling.pointer(), room) };
+    let written = if status == 1 { filling_bytes(sheet) } else { 0 };
     Outcome {
         status,
-        lent: filling.content().to_vec(),
+        lent: filling.after(written),
         rest_unchanged: bytes.unchanged() && filling.margins_unchanged(),
     }
 }
 
 /// Calls `tpl_count` on a copy of `sheet`.
 pub fn count(sheet: &[u8]) -> Outcome<u64> {
-    let mut bytes = Lent::new(sheet, &SHEET_MARGIN);
-    let mut counts = Lent::new(&COUNTS_BEFORE[..3], &COUNTS_MARGIN);
+    let mut bytes = Lent::to_read(sheet, &SHEET_MARGIN);
+    let mut counts = Lent::to_write(&COUNTS_BEFORE[..3], &COUNTS_MARGIN);
     // The pointers lead to `sheet.len()` bytes and to three numbers.
     let status = unsafe { tpl_count(bytes.pointer(), sheet.len(), counts.pointer()) };
+    let written = if status == 0 { 3 } else { 0 };
     Outcome {
         status,
-        lent: counts.content().to_vec(),
+        lent: counts.after(written),
         rest_unchanged: bytes.unchanged() && counts.margins_unchanged(),
     }
 }
 
 /// Calls `tpl_line` on a copy of `sheet`, with a buffer of `room` bytes.
 pub fn line(sheet: &[u8], number: u64, room: usize) -> Outcome<u8> {
-    let mut bytes = Lent::new(sheet, &SHEET_MARGIN);
-    let mut text = Lent::new(&buffer_before(room), &WRITTEN_MARGIN);
+    let mut bytes = Lent::to_read(sheet, &SHEET_MARGIN);
+    let mut text = Lent::to_write(&buffer_before(room), &WRITTEN_MARGIN);
     // The pointers lead to `sheet.len()` and `room` bytes.
     let status = unsafe { tpl_line(bytes.pointer(), sheet.len(), number, text.pointer(), room) };
     Outcome {
         status,
-        lent: text.content().to_vec(),
+        lent: text.after(status.max(0) as usize),
         rest_unchanged: bytes.unchanged() && text.margins_unchanged(),
     }
 }
 
 /// Calls `tpl_reply` on copies of the sheet and the reply, with a buffer of `room` bytes.
 pub fn reply(sheet: &[u8], reply: &[u8], room: usize) -> Outcome<u8> {
-    let mut bytes = Lent::new(sheet, &SHEET_MARGIN);
-    let mut text = Lent::new(reply, REPLY_MARGIN);
-    let mut filling = Lent::new(&buffer_before(room), &WRITTEN_MARGIN);
+    let mut bytes = Lent::to_read(sheet, &SHEET_MARGIN);
+    let mut text = Lent::to_read(reply, REPLY_MARGIN);
+    let mut filling = Lent::to_write(&buffer_before(room), &WRITTEN_MARGIN);
     // The pointers lead to as many bytes as the number after each says.
     let status = unsafe {
         tpl_reply(
@@ -214,9 +226,10 @@ pub fn reply(sheet: &[u8], reply: &[u8], room: usize) -> Outcome<u8> {
             room,
         )
     };
+    let written = if status == 0 { filling_bytes(sheet) } else { 0 };
     Outcome {
         status,
-        lent: filling.content().to_vec(),
+        lent: filling.after(written),
         rest_unchanged: bytes.unchanged() && text.unchanged() && filling.margins_unchanged(),
     }
 }

@@ -107,9 +107,9 @@ fn sheet(random: &mut Random) -> Sheet {
 
 /// A sheet with places for many letters.
 fn plain(random: &mut Random) -> Sheet {
+    let makers: [fn(&mut Random) -> Sheet; 2] = [sheets::valid, sheets::largest];
     loop {
-        let make = random.one_of(&[sheets::valid, sheets::largest]);
-        let sheet = make(random);
+        let sheet = random.one_of(&makers)(random);
         let places: usize = sheet.limits.iter().map(|&limit| usize::from(limit)).sum();
         if places >= LEAST_PLACES {
             return sheet;

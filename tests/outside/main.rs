@@ -4,6 +4,10 @@
 //! and names of SAT solvers it gives the library's clause files to these, compares what they say
 //! with brute force and with the search, and gives their replies to the library.
 //!
+//! With `fuzz` and a number it makes so many calls on inputs of all kinds, and holds their answers
+//! to what must be so whatever the input; with `--exact` after it nothing is lent with margins, so
+//! that valgrind's memcheck sees what is read or written outside of what is lent.
+//!
 //! Two further words test no library: `clauses` prints the clause file of the sheet on standard input
 //! from the plain writer, and `report`, with a sheet's file, says whether the report on standard
 //! input is right.
@@ -13,14 +17,20 @@
 mod answers;
 mod assignment;
 mod brute;
+mod calls;
 mod changes;
 mod checking;
+mod corpus;
+mod ends;
 mod engine;
 mod examples;
 mod fillings;
+mod fuzz;
 mod hard;
+mod inputs;
 mod large;
 mod lent;
+mod listed;
 mod met;
 mod orders;
 mod planted;
@@ -43,6 +53,7 @@ mod speller;
 mod tally;
 mod test;
 mod texts;
+mod turn;
 mod writer;
 mod writing;
 
@@ -56,6 +67,15 @@ fn main() -> io::Result<()> {
         None => test_all(),
         Some("replies") => replies::run(),
         Some("search") => searches::run(),
+        Some("fuzz") => {
+            let calls = words.next().and_then(|word| word.parse().ok());
+            match words.next().as_deref() {
+                None => {}
+                Some("--exact") => lent::lend_exactly(),
+                Some(word) => panic!("no such option: {word}"),
+            }
+            fuzz::run(calls.expect("a number of calls"));
+        }
         Some("solvers") => {
             let solvers: Vec<Solver> = words.map(|name| solver::named(&name)).collect();
             assert!(!solvers.is_empty(), "no solver is named");

@@ -234,7 +234,7 @@ fn require_true(asked: &Asked, listing: &[i64]) {
 }
 
 /// A reply that lists an assignment, most often damaged.
-fn text(random: &mut Random, sheet: &Numbered, listing: &[i64]) -> Vec<u8> {
+pub fn text(random: &mut Random, sheet: &Numbered, listing: &[i64]) -> Vec<u8> {
     let mut numbers = listing.to_vec();
     texts::vary(random, sheet, &mut numbers);
     if random.chance(DAMAGED_LISTING_PERCENT) {

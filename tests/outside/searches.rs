@@ -286,7 +286,7 @@ fn planted(searches: &mut Searches) {
 }
 
 /// A largest sheet in which a full filling was made to clash, with rules that only such a one keeps.
-fn full(random: &mut Random) -> Sheet {
+pub fn full(random: &mut Random) -> Sheet {
     let mut sheet = sheets::largest(random);
     let lengths = sheet.limits.clone();
     planted::plant_parts(random, &mut sheet, &lengths);

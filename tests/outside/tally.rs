@@ -50,10 +50,26 @@ impl Tally {
                 Err(number) => println!("outside: {}: refused {number}: {times}", self.name),
             }
         }
+        self.require(least);
+    }
+
+    /// Prints all counts on one line, and fails if one is below `least`.
+    pub fn finish_on_a_line(&self, least: usize) {
+        let counts = self.reached.iter().map(|(answer, times)| match answer {
+            Ok(word) => format!("{word} {times}"),
+            Err(number) => format!("-{number} {times}"),
+        });
+        let counts: Vec<String> = counts.collect();
+        let counts = counts.join(", ");
+        println!("outside: {}, {} times: {counts}", self.name, self.total());
+        self.require(least);
+    }
+
+    fn require(&self, least: usize) {
         require(
             self.reached.iter().all(|row| row.1 >= least),
             "an answer was reached too seldom to be tested",
-            &[("answers of", &self.name)],
+            &[("answers of", &self.name), ("least", &least)],
         );
     }
 }

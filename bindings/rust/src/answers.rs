@@ -1,0 +1,62 @@
+//! What the calls answer where they refuse nothing, and the sides of a pair.
+
+/// How many of each a sheet has.
+#[derive(Clone, Copy, Debug, PartialEq, Eq, Hash)]
+pub struct Counts {
+    /// Letters, 1 to 8.
+    pub letters: usize,
+    /// Fields, 0 to 6.
+    pub fields: usize,
+    /// Pairs of templates, 1 to 4.
+    pub pairs: usize,
+    /// Rules, 0 to 4.
+    pub rules: usize,
+}
+
+/// What is in a sheet's clause file.
+#[derive(Clone, Copy, Debug, PartialEq, Eq, Hash)]
+pub struct ClauseCounts {
+    /// Variables; they are numbered from 1.
+    pub variables: u64,
+    /// Clauses. The file has a line for each, after line 0.
+    pub clauses: u64,
+    /// 80 bytes for each line, which is at least the file's size.
+    pub allowance: u64,
+}
+
+/// Whether a filling clashes.
+#[derive(Clone, Copy, Debug, PartialEq, Eq, Hash)]
+pub enum Checked {
+    /// In every pair both templates spell the same text, and every rule holds.
+    Clash,
+    /// Some pair's templates spell different texts, or some rule does not hold.
+    NoClash,
+}
+
+/// Whether some filling of a sheet clashes.
+#[derive(Clone, Copy, Debug, PartialEq, Eq, Hash)]
+pub enum Searched {
+    /// Some filling clashes, and one that does was handed over.
+    Clash,
+    /// No filling clashes.
+    Apart,
+}
+
+/// A side of a pair of templates.
+#[derive(Clone, Copy, Debug, PartialEq, Eq, Hash)]
+pub enum Side {
+    /// The left template.
+    Left,
+    /// The right template.
+    Right,
+}
+
+impl Side {
+    /// Document 01's number: 0 left, 1 right.
+    pub fn number(self) -> u64 {
+        match self {
+            Side::Left => 0,
+            Side::Right => 1,
+        }
+    }
+}

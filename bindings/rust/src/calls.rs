@@ -1,0 +1,322 @@
+//! The engine's seven calls, over any bytes and lent buffers. Each answers, or gives the first refusal in document 01's order, with
+//! all that was lent to it as it was. They allocate nothing.
+
+use crate::engine;
+use crate::status::Call;
+use crate::Refusal;
+
+pub use crate::answers::{Checked, ClauseCounts, Counts, Searched};
+
+/// Reads a sheet of any bytes: its counts, or one of the refusals 1 to 15.
+///
+/// ```
+/// use lunthegyr::{calls, Refusal};
+///
+/// let mut sheet = *b"TPL\x00\x01\x01\x01\x01\x00A\x01\x01\x01\x80\x00";
+/// assert_eq!(calls::read(&sheet)?.fields, 1);
+/// sheet[0] = b'?';
+/// assert_eq!(calls::read(&sheet), Err(Refusal::Mark));
+/// # Ok::<(), Refusal>(())
+/// ```
+pub fn read(sheet: &[u8]) -> Result<Counts, Refusal> {
+    const CALL: Call = Call {
+        name: "tpl_read",
+        greatest: 0,
+        own: &[],
+    };
+    let mut counts = [0; 4];
+    CALL.outcome(engine::read(sheet, &mut counts))?;
+    let [letters, fields, pairs, rules] = counts.map(|count| count as usize);
+    Ok(Counts {
+        letters,
+        fields,
+        pairs,
+        rules,
+    })
+}
+
+/// Checks a filling of any bytes: whether it clashes, or one of the refusals 1 to 15 and 20 to 23.
+///
+/// ```
+/// use lunthegyr::calls::{self, Checked};
+///
+/// let sheet = b"TPL\x00\x01\x01\x01\x01\x00A\x01\x01\x01\x80\x00";
+/// let is_empty = [0, 255, 255, 255, 255, 255, 255, 255, 255];
+/// assert_eq!(calls::check(sheet, &is_empty), Ok(Checked::NoClash));
+/// ```
+pub fn check(sheet: &[u8], filling: &[u8]) -> Result<Checked, Refusal> {
+    const CALL: Call = Call {
+        name: "tpl_check",
+        greatest: 1,
+        own: &[20, 21, 22, 23],
+    };
+    match CALL.outcome(engine::check(sheet, filling))? {
+        0 => Ok(Checked::NoClash),
+        _ => Ok(Checked::Clash),
+    }
+}
+
+/// Spells the template of a pair (counted from 0) and a side (0 left, 1 right) under a filling, in the sheet's letters. Answers the text's
+/// length, with the text in the first bytes of `text` and the later ones as they were; or one of the refusals 1 to 15 and 20 to 26.
+/// A buffer of [`TEXT_MOST`](crate::TEXT_MOST) is always long enough.
+///
+/// ```
+/// use lunthegyr::{calls, Refusal, TEXT_MOST};
+///
+/// let sheet = b"TPL\x00\x01\x01\x01\x01\x00A\x01\x01\x01\x80\x00";
+/// let is_a = [1, 0, 255, 255, 255, 255, 255, 255, 255];
+/// let mut text = [0; TEXT_MOST];
+/// let length = calls::spell(sheet, 0, 1, &is_a, &mut text)?;
+/// assert_eq!(text[..length], *b"A");
+/// assert_eq!(calls::spell(sheet, 0, 2, &is_a, &mut text), Err(Refusal::Side));
+/// # Ok::<(), Refusal>(())
+/// ```
+pub fn spell(
+    sheet: &[u8],
+    pair: u64,
+    side: u64,
+    filling: &[u8],
+    text: &mut [u8],
+) -> Result<usize, Refusal> {
+    let call = Call {
+        name: "tpl_spell",
+        greatest: text.len(),
+        own: &[20, 21, 22, 23, 24, 25, 26],
+    };
+    call.outcome(engine::spell(sheet, pair, side, filling, text))
+}
+
+/// Searches a sheet for a filling that clashes. Answers [`Searched::Clash`] with such a filling in the first 9 bytes per field of `filling`
+/// and the later ones as they were; or [`Searched::Apart`] or one of the refusals 1 to 15 and 27, with all bytes as they were. A buffer of
+/// [`FILLING_MOST`](crate::FILLING_MOST) is always long enough. The slowest sheets that are known take a quarter of a second.
+///
+/// ```
+/// use lunthegyr::{calls, calls::Searched, FILLING_MOST};
+///
+/// let mut filling = [0; FILLING_MOST];
+/// let searched = calls::search(b"TPL\x00\x01\x01\x01\x01\x00A\x01\x01\x01\x80\x00", &mut filling);
+/// assert_eq!(searched, Ok(Searched::Clash));
+/// assert_eq!(filling[..9], [1, 0, 255, 255, 255, 255, 255, 255, 255]);
+/// ```
+pub fn search(sheet: &[u8], filling: &mut [u8]) -> Result<Searched, Refusal> {
+    const CALL: Call = Call {
+        name: "tpl_search",
+        greatest: 1,
+        own: &[27],
+    };
+    match CALL.outcome(engine::search(sheet, filling))? {
+        0 => Ok(Searched::Apart),
+        _ => Ok(Searched::Clash),
+    }
+}
+
+/// Counts what is in a sheet's clause file, or gives one of the refusals 1 to 15.
+///
+/// ```
+/// let counts = lunthegyr::calls::count(b"TPL\x00\x01\x01\x01\x01\x00A\x01\x01\x01\x80\x00")?;
+/// assert_eq!((counts.variables, counts.clauses, counts.allowance), (6, 8, 720));
+/// # Ok::<(), lunthegyr::Refusal>(())
+/// ```
+pub fn count(sheet: &[u8]) -> Result<ClauseCounts, Refusal> {
+    const CALL: Call = Call {
+        name: "tpl_count",
+        greatest: 0,
+        own: &[],
+    };
+    let mut counts = [0; 3];
+    CALL.outcome(engine::count(sheet, &mut counts))?;
+    let [variables, clauses, allowance] = counts;
+    Ok(ClauseCounts {
+        variables,
+        clauses,
+        allowance,
+    })
+}
+
+/// Writes one line of a sheet's clause file, with its line feed. Lines count from 0, `p cnf` and two counts, to the number of clauses.
+/// Answers the line's length, with the line in the first bytes of `text` and the later ones as they were; or one of the refusals 1 to 15,
+/// 28 and 29. A buffer of [`LINE_MOST`](crate::LINE_MOST) is always long enough.
+///
+/// ```
+/// use lunthegyr::{calls, LINE_MOST};
+///
+/// let mut text = [0; LINE_MOST];
+/// let length = calls::line(b"TPL\x00\x01\x01\x01\x01\x00A\x01\x01\x01\x80\x00", 0, &mut text)?;
+/// assert_eq!(text[..length], *b"p cnf 6 8\n");
+/// # Ok::<(), lunthegyr::Refusal>(())
+/// ```
+pub fn line(sheet: &[u8], line: u64, text: &mut [u8]) -> Result<usize, Refusal> {
+    let call = Call {
+        name: "tpl_line",
+        greatest: text.len(),
+        own: &[28, 29],
+    };
+    call.outcome(engine::line(sheet, line, text))
+}
+
+/// Reads a SAT solver's reply to a sheet's clause file, and believes none of it: what is accepted is a filling that clashes. It is put
+/// in the first 9 bytes per field of `filling`, and the later ones stay as they were. Or it gives one of the refusals 1 to 15, 27 and 30
+/// to 39. A buffer of [`FILLING_MOST`](crate::FILLING_MOST) is always long enough.
+///
+/// ```
+/// use lunthegyr::{calls, Refusal, FILLING_MOST};
+///
+/// let sheet = b"TPL\x00\x01\x01\x01\x01\x00A\x01\x01\x01\x80\x00";
+/// let mut filling = [0; FILLING_MOST];
+/// calls::reply(sheet, b"s SATISFIABLE\nv 1 -2 3 -4 -5 6 0\n", &mut filling)?;
+/// assert_eq!(filling[..2], [1, 0]);
+/// let lie = b"s SATISFIABLE\nv -1 2 3 -4 -5 6 0\n";
+/// assert_eq!(calls::reply(sheet, lie, &mut filling), Err(Refusal::NoClash));
+/// # Ok::<(), Refusal>(())
+/// ```
+pub fn reply(sheet: &[u8], reply: &[u8], filling: &mut [u8]) -> Result<(), Refusal> {
+    const CALL: Call = Call {
+        name: "tpl_reply",
+        greatest: 0,
+        own: &[27, 30, 31, 32, 33, 34, 35, 36, 37, 38, 39],
+    };
+    CALL.outcome(engine::reply(sheet, reply, filling))?;
+    Ok(())
+}
+
+#[cfg(test)]
+mod tests {
+    use super::*;
+    use crate::samples::{sheet_of, P, P_FILE};
+
+    const IS_A: [u8; 9] = [1, 0, 255, 255, 255, 255, 255, 255, 255];
+    const GOOD: &[u8] = b"s SATISFIABLE\nv 1 0\n";
+
+    #[test]
+    fn every_call_reads_the_sheet_first() {
+        let refused = Refusal::PairCount;
+        let mut sheet = P;
+        sheet[7] = 0;
+        assert_eq!(read(&sheet), Err(refused));
+        assert_eq!(check(&sheet, &[]), Err(refused));
+        assert_eq!(spell(&sheet, 9, 9, &[], &mut []), Err(refused));
+        assert_eq!(search(&sheet, &mut []), Err(refused));
+        assert_eq!(count(&sheet), Err(refused));
+        assert_eq!(line(&sheet, 9, &mut []), Err(refused));
+        assert_eq!(reply(&sheet, &[], &mut []), Err(refused));
+    }
+
+    #[test]
+    fn a_buffer_that_is_too_short_stays_as_it_was() {
+        let mut buffer = [b'.'; 8];
+        assert_eq!(
+            spell(&P, 0, 0, &IS_A, &mut buffer[..0]),
+            Err(Refusal::BufferTooShort)
+        );
+        assert_eq!(search(&P, &mut buffer), Err(Refusal::BufferBelowFilling));
+        assert_eq!(line(&P, 0, &mut buffer), Err(Refusal::BufferBelowLine));
+        assert_eq!(
+            reply(&P, GOOD, &mut buffer),
+            Err(Refusal::BufferBelowFilling)
+        );
+        assert_eq!(buffer, [b'.'; 8]);
+    }
+
+    #[test]
+    fn the_bytes_after_an_answer_stay_as_they_were() {
+        let mut text = [b'.'; 24];
+        assert_eq!(spell(&P, 0, 0, &IS_A, &mut text), Ok(1));
+        assert_eq!(text, *b"A.......................");
+        let mut line_0 = [b'.'; 12];
+        assert_eq!(line(&P, 0, &mut line_0), Ok(10));
+        assert_eq!(line_0, *b"p cnf 6 8\n..");
+        let mut found = [b'.'; 11];
+        assert_eq!(search(&P, &mut found), Ok(Searched::Clash));
+        assert_eq!((&found[..9], &found[9..]), (&IS_A[..], &b".."[..]));
+        let mut read = [b'.'; 11];
+        assert_eq!(reply(&P, GOOD, &mut read), Ok(()));
+        assert_eq!(read, found);
+    }
+
+    #[test]
+    fn buffers_that_are_just_long_enough_are_enough() {
+        let mut exact = [0; 9];
+        assert_eq!(search(&P, &mut exact), Ok(Searched::Clash));
+        assert_eq!(reply(&P, GOOD, &mut exact), Ok(()));
+        assert_eq!(spell(&P, 0, 1, &IS_A, &mut exact[..1]), Ok(1));
+        let mut line_0 = [0; 10];
+        assert_eq!(line(&P, 0, &mut line_0), Ok(10));
+    }
+
+    #[test]
+    fn apart_leaves_the_buffer() {
+        let mut sheet = P;
+        sheet[10] = 0;
+        let mut filling = [b'.'; 54];
+        assert_eq!(search(&sheet, &mut filling), Ok(Searched::Apart));
+        assert_eq!(filling, [b'.'; 54]);
+    }
+
+    #[test]
+    fn pair_and_side_are_not_exchanged() {
+        let sheet = sheet_of(include_str!("../../../tests/search.d/shared_fields.sheet"));
+        let empty = [0, 255, 255, 255, 255, 255, 255, 255, 255].repeat(2);
+        let mut text = [0; 24];
+        assert_eq!(spell(sheet.bytes(), 0, 1, &empty, &mut text), Ok(2));
+        assert_eq!(text[..2], *b"AB");
+        assert_eq!(spell(sheet.bytes(), 1, 0, &empty, &mut text), Ok(0));
+        assert_eq!(spell(sheet.bytes(), 2, 0, &empty, &mut text), Ok(1));
+        assert_eq!(
+            spell(sheet.bytes(), 3, 0, &empty, &mut text),
+            Err(Refusal::PairNumber)
+        );
+        assert_eq!(
+            spell(sheet.bytes(), 0, 2, &empty, &mut text),
+            Err(Refusal::Side)
+        );
+        assert_eq!(
+            spell(sheet.bytes(), u64::MAX, 0, &empty, &mut text),
+            Err(Refusal::PairNumber)
+        );
+    }
+
+    #[test]
+    fn each_line_is_the_files() {
+        let mut text = [0; 80];
+        for (number, due) in P_FILE.split_inclusive(|byte| *byte == b'\n').enumerate() {
+            assert_eq!(line(&P, number as u64, &mut text), Ok(due.len()));
+            assert_eq!(text[..due.len()], *due);
+        }
+        assert_eq!(line(&P, 9, &mut text), Err(Refusal::LineNumber));
+        assert_eq!(line(&P, u64::MAX, &mut text), Err(Refusal::LineNumber));
+    }
+
+    #[test]
+    fn every_refusal_of_a_filling_comes_through() {
+        let past = [0, 0, 255, 255, 255, 255, 255, 255, 255];
+        let letter = [1, 1, 255, 255, 255, 255, 255, 255, 255];
+        let length = [2, 0, 0, 255, 255, 255, 255, 255, 255];
+        let faults: [(&[u8], u8); 4] = [(&[], 20), (&length, 21), (&letter, 22), (&past, 23)];
+        for (filling, number) in faults {
+            assert_eq!(check(&P, filling).map_err(Refusal::number), Err(number));
+            assert_eq!(
+                spell(&P, 0, 0, filling, &mut []).map_err(Refusal::number),
+                Err(number)
+            );
+        }
+    }
+
+    #[test]
+    fn every_refusal_of_a_reply_comes_through() {
+        let refused = |text: &[u8]| reply(&P, text, &mut [0; 9]).map_err(Refusal::number);
+        assert_eq!(refused(&[b'c'; 65537]), Err(30));
+        assert_eq!(refused(b"c"), Err(31));
+        assert_eq!(refused(b"\n"), Err(32));
+        assert_eq!(refused(b""), Err(33));
+        assert_eq!(refused(b"s SATISFIABLE\n"), Err(34));
+        assert_eq!(refused(b"s SATISFIABLE\nv 7 0\n"), Err(35));
+        assert_eq!(refused(b"s SATISFIABLE\nv 1 1 0\n"), Err(36));
+        assert_eq!(refused(b"s SATISFIABLE\nv 0\n"), Err(37));
+        assert_eq!(refused(b"s SATISFIABLE\nv 2 0\n"), Err(39));
+        // P with limit 2: a blank, and then A.
+        let mut sheet = P;
+        sheet[10] = 2;
+        let gap = reply(&sheet, b"s SATISFIABLE\nv 2 3 0\n", &mut [0; 9]);
+        assert_eq!(gap, Err(Refusal::LetterAfterBlank));
+    }
+}

@@ -1,0 +1,205 @@
+//! Every public call, with what must hold after it whatever it was given: the answer is one that the
+//! C header lists for this call, no byte changed that the call may not write, and the same call
+//! answers the same again. It knows the ranges of answers, and not which answer is right.
+
+use crate::engine::{self, buffer_before, filling_bytes, Outcome, COUNTS_BEFORE};
+use crate::listed::{self, Call, LONGEST_LINE, LONGEST_TEXT};
+use crate::reader::{HEADER_BYTES, MOST_FIELDS, MOST_LETTERS, MOST_PAIRS, MOST_RULES};
+use crate::report::{require, Case, Hex};
+use crate::speller::Spelling;
+use crate::tally::Tally;
+use std::fmt::Debug;
+
+/// One call in so many is made a second time.
+const AGAIN: usize = 8;
+/// Where a sheet has its letter count.
+const LETTER_COUNT_OFFSET: usize = 5;
+
+/// A call with what it returned, and where that hands over a filling, the filling's size.
+pub type Reached = (Call, i64, usize);
+
+/// The calls that were made, and what they answered.
+pub struct Calls {
+    pub made: usize,
+    /// What was reached since this was last emptied. A sheet's refusal is `tpl_read`'s alone.
+    pub reached: Vec<Reached>,
+    tallies: Vec<Tally>,
+}
+
+impl Calls {
+    pub fn new() -> Calls {
+        Calls {
+            made: 0,
+            reached: Vec::new(),
+            tallies: listed::tallies(),
+        }
+    }
+
+    /// `tpl_read`; the counts are in their ranges.
+    pub fn read(&mut self, sheet: &[u8]) -> Outcome<u64> {
+        let case: &Case = &[("sheet", &Hex(sheet))];
+        let got = self.hold(Call::Read, &COUNTS_BEFORE, 4, case, || engine::read(sheet));
+        if got.status == 0 {
+            let most = [MOST_LETTERS, MOST_FIELDS, MOST_PAIRS, MOST_RULES];
+            let ranges = [1, 0, 1, 0].into_iter().zip(most);
+            let mut counts = ranges.zip(&got.lent);
+            let fit = counts.all(|((least, most), &count)| (least..=most as u64).contains(&count));
+            require(fit, "a count is out of its range", case);
+        }
+        got
+    }
+
+    /// `tpl_check`.
+    pub fn check(&mut self, sheet: &[u8], filling: &[u8]) -> Outcome<u8> {
+        let case: &Case = &[("sheet", &Hex(sheet)), ("filling", &Hex(filling))];
+        self.hold(Call::Check, &[], 0, case, || engine::check(sheet, filling))
+    }
+
+    /// `tpl_spell`; a text is of the sheet's letters.
+    pub fn spell(&mut self, asked: Spelling) -> Outcome<u8> {
+        let before = buffer_before(asked.room);
+        let case: &Case = &[("asked", &asked)];
+        let got = self.hold(Call::Spell, &before, LONGEST_TEXT, case, || {
+            engine::spell(asked)
+        });
+        if got.status > 0 {
+            let letters = &asked.sheet[HEADER_BYTES..][..asked.sheet[LETTER_COUNT_OFFSET].into()];
+            let mut text = got.lent[..got.status as usize].iter();
+            let fits = text.all(|byte| letters.contains(byte));
+            require(fits, "a text has a byte that is no letter", case);
+        }
+        got
+    }
+
+    /// `tpl_search`; where it answers apart, nothing is written.
+    pub fn search(&mut self, sheet: &[u8], room: usize) -> Outcome<u8> {
+        let before = buffer_before(room);
+        let case: &Case = &[("sheet", &Hex(sheet)), ("buffer of", &room)];
+        let size = filling_bytes(sheet);
+        let got = self.hold(Call::Search, &before, size, case, || {
+            engine::search(sheet, room)
+        });
+        let unchanged = got.status != 0 || got.lent == before;
+        require(unchanged, "apart, but the buffer changed", case);
+        got
+    }
+
+    /// `tpl_count`; there are variables and clauses, and the allowance is that of the clauses.
+    pub fn count(&mut self, sheet: &[u8]) -> Outcome<u64> {
+        let before = &COUNTS_BEFORE[..3];
+        let case: &Case = &[("sheet", &Hex(sheet))];
+        let got = self.hold(Call::Count, before, 3, case, || engine::count(sheet));
+        if got.status == 0 {
+            let [variables, clauses, allowance] = [got.lent[0], got.lent[1], got.lent[2]];
+            let lines = clauses.checked_add(1);
+            let due = lines.and_then(|lines| lines.checked_mul(LONGEST_LINE as u64));
+            require(
+                variables > 0 && clauses > 0 && due == Some(allowance),
+                "no file has these counts",
+                &[case, &[("counts", &got)]].concat(),
+            );
+        }
+        got
+    }
+
+    /// `tpl_line`; a line ends once, line 0 has its prefix, and the others end in 0.
+    pub fn line(&mut self, sheet: &[u8], number: u64, room: usize) -> Outcome<u8> {
+        let before = buffer_before(room);
+        let case: &Case = &[
+            ("sheet", &Hex(sheet)),
+            ("line", &number),
+            ("buffer of", &room),
+        ];
+        let got = self.hold(Call::Line, &before, LONGEST_LINE, case, || {
+            engine::line(sheet, number, room)
+        });
+        if got.status > 0 {
+            let line = &got.lent[..got.status as usize];
+            let ends = line.iter().filter(|&&byte| byte == b'\n').count();
+            let (is_first, is_clause) = (line.starts_with(b"p cnf "), line.ends_with(b" 0\n"));
+            let fits = if number == 0 {
+                is_first
+            } else {
+                is_clause && !is_first
+            };
+            let fits = fits && ends == 1 && line.ends_with(b"\n");
+            require(
+                fits,
+                "a line has no form of a line",
+                &[case, &[("line", &got)]].concat(),
+            );
+        }
+        got
+    }
+
+    /// `tpl_reply`.
+    pub fn reply(&mut self, sheet: &[u8], reply: &[u8], room: usize) -> Outcome<u8> {
+        let before = buffer_before(room);
+        let case: &Case = &[
+            ("sheet", &Hex(sheet)),
+            ("reply", &reply.escape_ascii()),
+            ("buffer of", &room),
+        ];
+        let size = filling_bytes(sheet);
+        self.hold(Call::Reply, &before, size, case, || {
+            engine::reply(sheet, reply, room)
+        })
+    }
+
+    /// Makes a call that is lent `before`, and that may write the first `most` values of it, or as many
+    /// as it answers where it answers a length.
+    fn hold<T: Debug + PartialEq>(
+        &mut self,
+        call: Call,
+        before: &[T],
+        most: usize,
+        case: &Case,
+        run: impl Fn() -> Outcome<T>,
+    ) -> Outcome<T> {
+        let got = run();
+        let written = match call {
+            _ if got.status < 0 => 0,
+            Call::Spell | Call::Line => got.status as usize,
+            _ => most,
+        };
+        let again = || self.made % AGAIN != 0 || run() == got;
+        let fault = if listed::answer(call, got.status).is_none() {
+            "the header lists no such answer"
+        } else if !got.rest_unchanged {
+            "a byte changed that the call may not write"
+        } else if written > before.len() {
+            "more is answered than the buffer holds"
+        } else if got.lent[written..] != before[written..] {
+            "a byte changed that the call says it did not write"
+        } else if !again() {
+            "the same call gives another answer"
+        } else {
+            ""
+        };
+        let answer: &Case = &[("call", &listed::name(call)), ("answer", &got)];
+        require(fault.is_empty(), fault, &[case, answer].concat());
+        self.count_answer(call, got.status, written);
+        got
+    }
+
+    fn count_answer(&mut self, call: Call, status: i64, written: usize) {
+        self.made += 1;
+        if let Some(answer) = listed::answer(call, status) {
+            self.tallies[call as usize].count(answer);
+        }
+        let size = match call {
+            Call::Search | Call::Reply => written,
+            _ => 0,
+        };
+        if call == Call::Read || !listed::is_of_sheet(status) {
+            self.reached.push((call, status, size));
+        }
+    }
+
+    /// Prints how often each answer came up, and fails if one came up less often than `least`.
+    pub fn finish(&self, least: usize) {
+        for tally in &self.tallies {
+            tally.finish_on_a_line(least);
+        }
+    }
+}

@@ -1,0 +1,163 @@
+//! The part of a turn of the fuzzer that is about ends: how long a buffer must be, which numbers and
+//! sizes there are, and how many lines.
+
+use crate::engine::filling_bytes;
+use crate::listed::{LONGEST_LINE, LONGEST_TEXT};
+use crate::refusal::Refusal;
+use crate::reply::MOST_BYTES;
+use crate::speller::FIELD_BYTES;
+use crate::test;
+use crate::turn::{Answers, Turn};
+
+/// How often it is tried whether the length of a buffer is just what it must be.
+const BUFFERS_PERCENT: usize = 15;
+/// How often the last line and those beyond it are asked for, and how often all lines.
+const LAST_LINE_PERCENT: usize = 15;
+const ALL_LINES_PERCENT: usize = 3;
+/// All lines of a file with more clauses are not asked for.
+const MOST_CLAUSES: u64 = 150;
+
+const TOO_SHORT_FOR_TEXT: i64 = -(Refusal::BufferTooShort as i64);
+const TOO_SHORT_FOR_FILLING: i64 = -(Refusal::BufferBelowFilling as i64);
+const TOO_SHORT_FOR_LINE: i64 = -(Refusal::BufferBelowLine as i64);
+const NO_SUCH_LINE: i64 = -(Refusal::LineNumber as i64);
+
+impl Turn<'_> {
+    /// A number or a size beyond what `tpl_read` and `tpl_count` say there is gets its refusal, and
+    /// no other one does.
+    pub fn beyond(&mut self, answers: &Answers) {
+        let input = self.input;
+        let [fields, pairs] = [answers.read.lent[1], answers.read.lent[2]];
+        let clauses = answers.count.lent[1];
+        let size = FIELD_BYTES * fields as usize;
+        let (no_pair, no_side) = (input.pair >= pairs, input.side > 1);
+        let (no_room, no_size) = (input.room < size, input.filling.len() != size);
+        let too_long = input.reply.len() > MOST_BYTES;
+        let (search, reply) = (answers.search.status, answers.reply.status);
+        for (status, refusal, due) in [
+            (answers.check, Refusal::FillingSize, no_size),
+            (answers.spell, Refusal::PairNumber, no_pair),
+            (answers.spell, Refusal::Side, !no_pair && no_side),
+            (search, Refusal::BufferBelowFilling, no_room),
+            (answers.line, Refusal::LineNumber, input.line > clauses),
+            (reply, Refusal::BufferBelowFilling, no_room),
+            (reply, Refusal::ReplySize, !no_room && too_long),
+        ] {
+            let refusal = test::status(refusal);
+            let reason = "a refusal is not due, or is due and not given";
+            self.require((status == refusal) == due, reason, status, refusal);
+        }
+        if !no_pair && !no_side {
+            let (check, spell) = (answers.check, answers.spell);
+            let same = if check < 0 {
+                spell == check
+            } else {
+                spell >= 0 || spell == TOO_SHORT_FOR_TEXT
+            };
+            self.require(same, "a filling is refused by one call alone", check, spell);
+        }
+    }
+
+    /// Now and then, buffers that are just long enough, and one byte shorter.
+    pub fn buffers(&mut self, answers: &Answers) {
+        if self.random.chance(BUFFERS_PERCENT) {
+            self.text_buffers(answers.spell);
+            self.line_buffers(answers.line);
+            self.filling_buffers(answers.search.status, answers.reply.status);
+        }
+    }
+
+    /// A text's own length is long enough, and one less is not.
+    fn text_buffers(&mut self, spell: i64) {
+        let reason = "a buffer is too short for a text that it holds, or the other way round";
+        if spell == TOO_SHORT_FOR_TEXT {
+            let roomy = self.calls.spell(self.input.spelling(LONGEST_TEXT)).status;
+            let longer = roomy > self.input.room as i64;
+            self.require(longer, reason, spell, roomy);
+        }
+        if spell >= 0 {
+            let just = self.calls.spell(self.input.spelling(spell as usize)).status;
+            self.require(just == spell, reason, spell, just);
+        }
+        if spell > 0 {
+            let short = self
+                .calls
+                .spell(self.input.spelling(spell as usize - 1))
+                .status;
+            self.require(short == TOO_SHORT_FOR_TEXT, reason, spell, short);
+        }
+    }
+
+    /// A line's own length is long enough, and one less is not.
+    fn line_buffers(&mut self, line: i64) {
+        let reason = "a buffer is too short for a line that it holds, or the other way round";
+        let (sheet, number) = (&self.input.sheet[..], self.input.line);
+        if line == TOO_SHORT_FOR_LINE {
+            let roomy = self.calls.line(sheet, number, LONGEST_LINE).status;
+            let longer = roomy > self.input.room as i64;
+            self.require(longer, reason, line, roomy);
+        }
+        if line > 0 {
+            let just = self.calls.line(sheet, number, line as usize).status;
+            self.require(just == line, reason, line, just);
+            let short = self.calls.line(sheet, number, line as usize - 1).status;
+            self.require(short == TOO_SHORT_FOR_LINE, reason, line, short);
+        }
+    }
+
+    /// Nine bytes per field are long enough, and one less is not.
+    fn filling_buffers(&mut self, search: i64, reply: i64) {
+        let reason = "a buffer is too short for a filling that it holds, or the other way round";
+        let (sheet, text) = (&self.input.sheet[..], &self.input.reply[..]);
+        let size = filling_bytes(sheet);
+        let searched = self.calls.search(sheet, size).status;
+        let replied = self.calls.reply(sheet, text, size).status;
+        for (first, just) in [(search, searched), (reply, replied)] {
+            let same = first == just || first == TOO_SHORT_FOR_FILLING;
+            let fits = same && just != TOO_SHORT_FOR_FILLING;
+            self.require(fits, reason, first, just);
+        }
+        if size > 0 {
+            let searched = self.calls.search(sheet, size - 1).status;
+            let replied = self.calls.reply(sheet, text, size - 1).status;
+            let short = [searched, replied] == [TOO_SHORT_FOR_FILLING; 2];
+            self.require(short, reason, searched, replied);
+        }
+    }
+
+    /// Any line up to the last is there and no later one; of a small file all lines are within the
+    /// allowance.
+    pub fn lines(&mut self, counts: &[u64]) {
+        let sheet = &self.input.sheet[..];
+        let [clauses, allowance] = [counts[1], counts[2]];
+        let any = self.random.bits() % (clauses + 1);
+        let line = self.calls.line(sheet, any, LONGEST_LINE).status;
+        self.require(line > 0, "a line that is counted is refused", line, line);
+        if self.random.chance(LAST_LINE_PERCENT) {
+            let last = self.calls.line(sheet, clauses, LONGEST_LINE).status;
+            let next = self.calls.line(sheet, clauses + 1, LONGEST_LINE).status;
+            let ends = last > 0 && next == NO_SUCH_LINE;
+            self.require(
+                ends,
+                "the last line is not the one that is counted",
+                last,
+                next,
+            );
+        }
+        if clauses <= MOST_CLAUSES && self.random.chance(ALL_LINES_PERCENT) {
+            let mut size = 0;
+            for number in 0..=clauses {
+                let line = self.calls.line(sheet, number, LONGEST_LINE).status;
+                self.require(line > 0, "a line that is counted is refused", line, line);
+                size += line;
+            }
+            let allowed = allowance as i64;
+            self.require(
+                size <= allowed,
+                "the file is above its allowance",
+                size,
+                allowed,
+            );
+        }
+    }
+}

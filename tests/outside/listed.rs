@@ -1,0 +1,130 @@
+//! What the C header lists for each call: the range of its answers, and its refusals.
+
+use crate::tally::{Answer, Tally};
+use crate::writing;
+use std::ops::RangeInclusive;
+
+/// The shortest line is a clause of one literal of one digit, as in `3 0`.
+const SHORTEST_LINE: i64 = 4;
+pub const LONGEST_LINE: usize = writing::ROOMY;
+pub const LONGEST_TEXT: usize = 24;
+/// The refusals of a sheet, which every call has.
+const SHEET_REFUSALS: RangeInclusive<i64> = 1..=15;
+
+/// What one of the calls may return.
+struct Listed {
+    name: &'static str,
+    answers: RangeInclusive<i64>,
+    /// The refusals beside those of a sheet.
+    refusals: &'static [RangeInclusive<i64>],
+    /// A word for an answer, and all such words.
+    kind: fn(i64) -> &'static str,
+    kinds: &'static [&'static str],
+}
+
+/// A call, by its place in `LISTED`.
+#[derive(Clone, Copy, PartialEq, Eq, Hash)]
+pub enum Call {
+    Read,
+    Check,
+    Spell,
+    Search,
+    Count,
+    Line,
+    Reply,
+}
+
+/// All calls, in the order of `Call`.
+static LISTED: [Listed; 7] = [
+    Listed {
+        name: "tpl_read",
+        answers: 0..=0,
+        refusals: &[],
+        kind: |_| "accepted",
+        kinds: &["accepted"],
+    },
+    Listed {
+        name: "tpl_check",
+        answers: 0..=1,
+        refusals: &[20..=23],
+        kind: |status| ["no clash", "clash"][status as usize],
+        kinds: &["clash", "no clash"],
+    },
+    Listed {
+        name: "tpl_spell",
+        answers: 0..=LONGEST_TEXT as i64,
+        refusals: &[20..=26],
+        kind: |status| match status {
+            0 => "empty",
+            1..=23 => "1 to 23",
+            _ => "24",
+        },
+        kinds: &["empty", "1 to 23", "24"],
+    },
+    Listed {
+        name: "tpl_search",
+        answers: 0..=1,
+        refusals: &[27..=27],
+        kind: |status| ["apart", "clash"][status as usize],
+        kinds: &["clash", "apart"],
+    },
+    Listed {
+        name: "tpl_count",
+        answers: 0..=0,
+        refusals: &[],
+        kind: |_| "counted",
+        kinds: &["counted"],
+    },
+    Listed {
+        name: "tpl_line",
+        answers: SHORTEST_LINE..=LONGEST_LINE as i64,
+        refusals: &[28..=29],
+        kind: |status| match status {
+            0..=9 => "4 to 9",
+            10..=24 => "10 to 24",
+            _ => "25 to 80",
+        },
+        kinds: &["4 to 9", "10 to 24", "25 to 80"],
+    },
+    Listed {
+        name: "tpl_reply",
+        answers: 0..=0,
+        refusals: &[27..=27, 30..=39],
+        kind: |_| "accepted",
+        kinds: &["accepted"],
+    },
+];
+
+/// Is this a refusal of the sheet?
+pub fn is_of_sheet(status: i64) -> bool {
+    SHEET_REFUSALS.contains(&status.wrapping_neg())
+}
+
+/// The call's name in the header.
+pub fn name(call: Call) -> &'static str {
+    LISTED[call as usize].name
+}
+
+/// What a status of this call says, if the call may return it.
+pub fn answer(call: Call, status: i64) -> Option<Answer> {
+    let listed = &LISTED[call as usize];
+    let refusal = status.checked_neg()?;
+    let mut own = listed.refusals.iter();
+    if listed.answers.contains(&status) {
+        Some(Ok((listed.kind)(status)))
+    } else if SHEET_REFUSALS.contains(&refusal) || own.any(|some| some.contains(&refusal)) {
+        Some(Err(refusal as u8))
+    } else {
+        None
+    }
+}
+
+/// For each call a tally of all that it may return.
+pub fn tallies() -> Vec<Tally> {
+    let tally = |listed: &Listed| {
+        let own = listed.refusals.iter().cloned().flatten();
+        let refusals = SHEET_REFUSALS.chain(own).map(|number| number as u8);
+        Tally::new(listed.name, listed.kinds, refusals)
+    };
+    LISTED.iter().map(tally).collect()
+}

@@ -1,0 +1,184 @@
+//! One turn of the fuzzer: all calls on one input, and what must hold between their answers. It
+//! compares the library with itself alone; plain code only makes some more fillings to try.
+
+use crate::calls::{Calls, Reached};
+use crate::engine::{filling_bytes, Outcome};
+use crate::fillings;
+use crate::inputs::Input;
+use crate::listed::{self, LONGEST_TEXT};
+use crate::random::Random;
+use crate::reader;
+use crate::report::{require, Case, Hex};
+use crate::speller::Spelling;
+use std::mem;
+
+/// The first so many bytes of a sheet decide.
+const DECIDING: usize = 160;
+/// How often a filling that checks as a clash is spelled too.
+const CLASH_PERCENT: usize = 20;
+/// How many fillings are tried of a sheet that is apart.
+const FILLINGS_TRIED: usize = 3;
+
+/// An input with what is needed to try it.
+pub struct Turn<'a> {
+    pub calls: &'a mut Calls,
+    pub random: &'a mut Random,
+    pub input: &'a Input,
+}
+
+/// What the calls on the input answered.
+pub struct Answers {
+    pub read: Outcome<u64>,
+    pub check: i64,
+    pub spell: i64,
+    pub search: Outcome<u8>,
+    pub count: Outcome<u64>,
+    pub line: i64,
+    pub reply: Outcome<u8>,
+}
+
+impl Turn<'_> {
+    /// Makes every call on the input, then more calls on its sheet, and answers what the first ones
+    /// reached.
+    pub fn run(&mut self) -> Vec<Reached> {
+        let answers = self.all_calls();
+        let reached = mem::take(&mut self.calls.reached);
+        self.sheet_refusals(&answers);
+        if answers.read.status == 0 {
+            self.clashes(&answers);
+            self.beyond(&answers);
+            self.buffers(&answers);
+            self.lines(&answers.count.lent);
+        }
+        self.calls.reached.clear();
+        reached
+    }
+
+    fn all_calls(&mut self) -> Answers {
+        let input = self.input;
+        let sheet = &input.sheet[..];
+        Answers {
+            read: self.calls.read(sheet),
+            check: self.calls.check(sheet, &input.filling).status,
+            spell: self.calls.spell(input.spelling(input.room)).status,
+            search: self.calls.search(sheet, input.room),
+            count: self.calls.count(sheet),
+            line: self.calls.line(sheet, input.line, input.room).status,
+            reply: self.calls.reply(sheet, &input.reply, input.room),
+        }
+    }
+
+    /// The first 160 bytes decide, and what `tpl_read` refuses every call refuses with its number.
+    fn sheet_refusals(&mut self, answers: &Answers) {
+        let sheet = &self.input.sheet[..];
+        let read = answers.read.status;
+        if sheet.len() > DECIDING {
+            let start = self.calls.read(&sheet[..DECIDING]).status;
+            self.require(start == read, "later bytes decide", read, start);
+        }
+        for status in [
+            answers.check,
+            answers.spell,
+            answers.search.status,
+            answers.count.status,
+            answers.line,
+            answers.reply.status,
+        ] {
+            let fits = if read < 0 {
+                status == read
+            } else {
+                !listed::is_of_sheet(status)
+            };
+            self.require(fits, "tpl_read does not refuse the same", read, status);
+        }
+    }
+
+    /// What clashes clashes in every call, and in a sheet that is apart nothing does.
+    fn clashes(&mut self, answers: &Answers) {
+        let pairs = answers.read.lent[2];
+        let (search, reply) = (&answers.search, &answers.reply);
+        if search.status == 1 {
+            self.require_clash(&search.lent, pairs);
+        }
+        if reply.status == 0 {
+            self.require_clash(&reply.lent, pairs);
+        }
+        if answers.check == 1 && self.random.chance(CLASH_PERCENT) {
+            self.require_clash(&self.input.filling, pairs);
+        }
+        if search.status == 0 {
+            let none = answers.check != 1 && reply.status != 0;
+            let reason = "a clash in a sheet that is apart";
+            self.require(none, reason, answers.check, reply.status);
+            self.try_fillings();
+        }
+    }
+
+    /// Fails on this input unless `holds`, with two of the answers.
+    pub fn require(&self, holds: bool, reason: &str, first: i64, second: i64) {
+        let input = self.input;
+        let case: &Case = &[
+            ("sheet", &Hex(&input.sheet)),
+            ("filling", &Hex(&input.filling)),
+            ("reply", &input.reply.escape_ascii()),
+            ("pair", &input.pair),
+            ("side", &input.side),
+            ("line", &input.line),
+            ("buffer of", &input.room),
+            ("answer", &first),
+            ("another", &second),
+        ];
+        require(holds, reason, case);
+    }
+
+    /// A filling that was handed over, or that checks as a clash: it checks as one, and both sides of
+    /// every pair spell the same.
+    fn require_clash(&mut self, handed: &[u8], pairs: u64) {
+        let sheet = &self.input.sheet[..];
+        let filling = &handed[..filling_bytes(sheet)];
+        let check = self.calls.check(sheet, filling).status;
+        self.require(
+            check == 1,
+            "what is handed over as a clash is none",
+            1,
+            check,
+        );
+        for pair in 0..pairs {
+            let mut side = |side| {
+                let room = LONGEST_TEXT;
+                let spelled = self.calls.spell(Spelling {
+                    sheet,
+                    pair,
+                    side,
+                    filling,
+                    room,
+                });
+                (spelled.status, spelled.lent)
+            };
+            let (left, right) = (side(0), side(1));
+            self.require(
+                left.0 >= 0,
+                "a template of a clash is not spelled",
+                left.0,
+                right.0,
+            );
+            self.require(left == right, "a clash spells two texts", left.0, right.0);
+        }
+    }
+
+    /// Some fillings of a sheet that is apart.
+    fn try_fillings(&mut self) {
+        let sheet = &self.input.sheet[..];
+        let accepted = reader::accepted(sheet);
+        for _ in 0..FILLINGS_TRIED {
+            let filling = fillings::encode(&fillings::legal(self.random, &accepted));
+            let check = self.calls.check(sheet, &filling).status;
+            self.require(
+                check == 0,
+                "a filling of a sheet that is apart clashes",
+                0,
+                check,
+            );
+        }
+    }
+}

@@ -1,0 +1,146 @@
+//! Takes a sheet from a file, as text or as bytes, and has the engine read it. Where the engine refuses it, the place at fault is the end of
+//! the shortest start of the sheet's bytes that the engine refuses for the same reason.
+
+use crate::form::{Form, Part};
+use crate::parse::{self, Read};
+use crate::source::{Fault, Place, Places, Shown};
+use lunthegyr::{calls, Refusal, Sheet};
+use std::fs;
+use std::io::{self, Read as _};
+
+/// An accepted sheet.
+pub struct Input {
+    pub name: String,
+    pub sheet: Sheet,
+    pub form: Form,
+    /// Where the parts stand, if the sheet was given as text.
+    pub places: Option<Places>,
+}
+
+/// The first counts in the header that the engine refuses, less one: of letters, fields, pairs and rules.
+const MOST: [usize; 4] = [
+    lunthegyr::LETTERS_MOST,
+    lunthegyr::FIELDS_MOST,
+    lunthegyr::PAIRS_MOST,
+    lunthegyr::RULES_MOST,
+];
+const HEADER_BYTES: usize = 9;
+
+/// Reads a file; `-` is standard input. What is wrong is told in words.
+pub fn load(path: &str) -> Result<Input, String> {
+    let (name, content) = match path {
+        "-" => ("standard input", from_standard_input()),
+        _ => (path, fs::read(path)),
+    };
+    let content = content.map_err(|error| format!("{name}: {error}"))?;
+    if path.ends_with(".tpl") || content.starts_with(b"TPL") {
+        of_bytes(name, content)
+    } else {
+        of_text(name, content)
+    }
+}
+
+fn from_standard_input() -> io::Result<Vec<u8>> {
+    let mut bytes = Vec::new();
+    io::stdin().read_to_end(&mut bytes)?;
+    Ok(bytes)
+}
+
+fn of_bytes(name: &str, content: Vec<u8>) -> Result<Input, String> {
+    match Sheet::read(content.clone()) {
+        Ok(sheet) => Ok(Input {
+            name: name.to_string(),
+            form: Form::of_accepted(sheet.bytes()),
+            sheet,
+            places: None,
+        }),
+        Err(refusal) => {
+            let offset = offset(&content, refusal);
+            Err(format!("{name}: byte {offset}: {refusal}"))
+        }
+    }
+}
+
+fn of_text(name: &str, content: Vec<u8>) -> Result<Input, String> {
+    let text = match String::from_utf8(content) {
+        // Some editors put a mark of the byte order first.
+        Ok(text) => text.trim_start_matches('\u{feff}').to_string(),
+        Err(error) => {
+            let good = error.utf8_error().valid_up_to();
+            let text = String::from_utf8_lossy(error.as_bytes()).into_owned();
+            let before = &text[..good];
+            let place = Place {
+                line: before.matches('\n').count() + 1,
+                column: before.chars().rev().take_while(|&c| c != '\n').count() + 1,
+            };
+            let message = "this byte is no text: save the sheet as plain text, UTF-8".to_string();
+            return Err(shown(name, &text, &Fault { place, message }));
+        }
+    };
+    let Read { form, places } = parse::parse(&text).map_err(|fault| shown(name, &text, &fault))?;
+    let bytes = form.bytes();
+    let sheet = form.sheet();
+    match Sheet::read(sheet.clone()) {
+        Ok(sheet) => Ok(Input {
+            name: name.to_string(),
+            sheet,
+            form,
+            places: Some(places),
+        }),
+        Err(refusal) => {
+            let part = bytes.get(offset(&sheet, refusal)).map(|row| row.1);
+            let fault = refused(&form, &places, refusal, part);
+            Err(shown(name, &text, &fault))
+        }
+    }
+}
+
+fn shown(name: &str, text: &str, fault: &Fault) -> String {
+    Shown { name, text, fault }.to_string()
+}
+
+/// A refusal at the part of the text where the engine met it, with what the text has there.
+fn refused(form: &Form, places: &Places, refusal: Refusal, part: Option<Part>) -> Fault {
+    let mut place = part.map_or(places.end, |part| places.of(part, MOST));
+    let note = match (refusal, part) {
+        (Refusal::LetterCount, _) => format!(
+            "{} here, every sign that is no space being one; letters that stand in no template can be left out",
+            form.letters.len()
+        ),
+        (Refusal::FieldCount, _) => format!("{} here", form.fields.len()),
+        (Refusal::PairCount, _) if form.pairs.is_empty() => "there is no line `pair ..`".to_string(),
+        (Refusal::PairCount, _) => format!("{} here", form.pairs.len()),
+        (Refusal::RuleCount, _) => format!("{} here, a rule with `=` counted as two", form.rules.len()),
+        (Refusal::Letter, _) => format!("in order, and each once: {}", form.letters_in_order()),
+        (Refusal::Width, Some(Part::Symbol(pair, ..) | Part::SymbolCount(pair, _))) => {
+            place = places.pairs[pair].start;
+            let sides = [&form.pairs[pair].left, &form.pairs[pair].right];
+            let [left, right] = sides.map(|side| form.width(side));
+            format!("the left one is {left} wide, the right one {right}")
+        }
+        _ => String::new(),
+    };
+    let message = match note.is_empty() {
+        true => refusal.to_string(),
+        false => format!("{refusal} ({note})"),
+    };
+    Fault { place, message }
+}
+
+/// The offset of the byte at which a sheet is refused.
+fn offset(sheet: &[u8], refusal: Refusal) -> usize {
+    match refusal {
+        Refusal::UnderNineBytes | Refusal::ByteMissing => sheet.len(),
+        Refusal::Mark => 0,
+        Refusal::Version => 3,
+        Refusal::LetterCount => 5,
+        Refusal::FieldCount => 6,
+        Refusal::PairCount => 7,
+        Refusal::RuleCount => 8,
+        _ => {
+            let same = |&n: &usize| calls::read(&sheet[..n]) == Err(refusal);
+            let shortest = (HEADER_BYTES..=sheet.len()).find(same);
+            shortest.map_or(sheet.len(), |n| n - 1)
+        }
+    }
+}

@@ -1,0 +1,158 @@
+//! One line of a text, read from left to right.
+
+use crate::source::{Fault, Place};
+use crate::text::SPECIAL;
+
+pub struct Line {
+    chars: Vec<char>,
+    number: usize,
+    at: usize,
+}
+
+/// The longest number that is read, in digits.
+const MOST_DIGITS: usize = 6;
+
+impl Line {
+    /// A line of a number, without its comment: from a `#` on that starts the line or stands after a space.
+    pub fn new(text: &str, number: usize) -> Line {
+        let mut chars: Vec<char> = Vec::new();
+        for c in text.chars() {
+            let starts = chars.last().map_or(true, |last| last.is_whitespace());
+            if c == '#' && starts {
+                break;
+            }
+            chars.push(c);
+        }
+        Line {
+            chars,
+            number,
+            at: 0,
+        }
+    }
+
+    pub fn place(&self) -> Place {
+        Place {
+            line: self.number,
+            column: self.at + 1,
+        }
+    }
+
+    /// What is wrong here.
+    pub fn fault<T>(&self, message: impl Into<String>) -> Result<T, Fault> {
+        fault_at(self.place(), message)
+    }
+
+    /// The next character that is no space, which is not passed.
+    pub fn peek(&mut self) -> Option<char> {
+        while self.chars.get(self.at).map_or(false, |c| c.is_whitespace()) {
+            self.at += 1;
+        }
+        self.chars.get(self.at).copied()
+    }
+
+    /// Passes a character that was seen.
+    pub fn pass(&mut self) {
+        self.at += 1;
+    }
+
+    /// Passes a sign if it comes next.
+    pub fn passes(&mut self, sign: char) -> bool {
+        let next = self.peek() == Some(sign);
+        if next {
+            self.pass();
+        }
+        next
+    }
+
+    /// Passes a sign, or says what it is needed for.
+    pub fn expect(&mut self, sign: char, why: &str) -> Result<(), Fault> {
+        if self.passes(sign) {
+            return Ok(());
+        }
+        let found = self.found();
+        self.fault(format!("expected `{sign}` {why}, and found {found}"))
+    }
+
+    /// The end of the line, or what stands before it.
+    pub fn end(&mut self, after: &str) -> Result<(), Fault> {
+        match self.peek() {
+            None => Ok(()),
+            Some(_) => {
+                let found = self.found();
+                self.fault(format!(
+                    "expected nothing more after {after}, and found {found}"
+                ))
+            }
+        }
+    }
+
+    /// What comes next, in words.
+    pub fn found(&mut self) -> String {
+        match self.peek() {
+            None => "the end of the line".to_string(),
+            Some(c) => format!("`{c}`"),
+        }
+    }
+
+    /// A word of letters, digits and underlines that does not start with a digit; empty if none comes next.
+    pub fn word(&mut self) -> String {
+        let starts = self
+            .peek()
+            .map_or(false, |c| c.is_ascii_alphabetic() || c == '_');
+        if !starts {
+            return String::new();
+        }
+        self.run(|c| c.is_ascii_alphanumeric() || c == '_')
+    }
+
+    /// A number without a sign, if one comes next.
+    pub fn number(&mut self) -> Result<Option<i64>, Fault> {
+        self.peek();
+        let place = self.place();
+        let digits = self.run(|c| c.is_ascii_digit());
+        if digits.len() > MOST_DIGITS {
+            return fault_at(place, format!("a number of more than {MOST_DIGITS} digits"));
+        }
+        Ok(digits.parse().ok())
+    }
+
+    fn run(&mut self, belongs: fn(char) -> bool) -> String {
+        let rest = self.chars[self.at..].iter().copied();
+        let run: String = rest.take_while(|&c| belongs(c)).collect();
+        self.at += run.chars().count();
+        run
+    }
+
+    /// The letter that comes next, after a backslash if it is special.
+    pub fn letter(&mut self) -> Result<u8, Fault> {
+        let place = self.place();
+        let escaped = self.passes('\\');
+        // A space after a backslash is no letter.
+        let next = self.chars.get(self.at).copied();
+        match next {
+            Some(c) if !c.is_ascii_graphic() => fault_at(
+                place,
+                format!(
+                    "`{}` is no letter: letters are the visible ASCII characters",
+                    c.escape_debug()
+                ),
+            ),
+            Some(c) if SPECIAL.contains(c) && !escaped => fault_at(
+                place,
+                format!("`{c}` has a meaning of its own here; write `\\{c}` for the letter"),
+            ),
+            Some(c) => {
+                self.pass();
+                Ok(c as u8)
+            }
+            None => fault_at(place, "a backslash at the end of the line".to_string()),
+        }
+    }
+}
+
+pub fn fault_at<T>(place: Place, message: impl Into<String>) -> Result<T, Fault> {
+    Err(Fault {
+        place,
+        message: message.into(),
+    })
+}

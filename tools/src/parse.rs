@@ -1,0 +1,237 @@
+//! Reads the text form of a sheet. A line starts with one of four words:
+//!
+//!     letters 0 1 2 A                       the letters, in the order of their ASCII numbers
+//!     field shop1 4                         a field and its limit, the most letters that its text may have
+//!     pair A{shop1}{zone1} = A{shop2}       two templates: letters, and fields in braces
+//!     rule len(shop1) + len(zone1) >= 5     a rule over the lengths of fields' texts
+//!
+//! Spaces count for nothing, a `#` at the start of a line or after a space starts a comment, and `\` before one of `{ } = # \` makes it a letter. Fields and letters
+//! may stand after what uses them. What a sheet may have is not judged here: the engine does that.
+
+use crate::form::{Field, Form, Pair, Rule, Symbol};
+use crate::line::{fault_at, Line};
+use crate::rule;
+use crate::source::{Fault, PairPlaces, Place, Places, RulePlaces};
+
+/// A sheet's text as it was read.
+pub struct Read {
+    pub form: Form,
+    pub places: Places,
+}
+
+/// Lines whose words are to be read once all letters and fields are known.
+struct Later {
+    pairs: Vec<Line>,
+    rules: Vec<Line>,
+}
+
+pub fn parse(text: &str) -> Result<Read, Fault> {
+    let mut read = Read::empty(text);
+    let mut later = Later {
+        pairs: Vec::new(),
+        rules: Vec::new(),
+    };
+    for (number, text) in text.lines().enumerate() {
+        let mut line = Line::new(text, number + 1);
+        if line.peek().is_some() {
+            read.line(line, &mut later)?;
+        }
+    }
+    if read.form.letters.is_empty() {
+        return fault_at(read.places.end, "there is no line `letters ..`");
+    }
+    for line in later.pairs {
+        read.pair(line)?;
+    }
+    for line in later.rules {
+        read.rule(line)?;
+    }
+    Ok(read)
+}
+
+impl Read {
+    fn empty(text: &str) -> Read {
+        let last = text.lines().last().unwrap_or("");
+        let end = Place {
+            line: text.lines().count().max(1),
+            column: last.chars().count() + 1,
+        };
+        let form = Form {
+            letters: Vec::new(),
+            fields: Vec::new(),
+            pairs: Vec::new(),
+            rules: Vec::new(),
+        };
+        let places = Places {
+            letters: Vec::new(),
+            fields: Vec::new(),
+            limits: Vec::new(),
+            pairs: Vec::new(),
+            rules: Vec::new(),
+            end,
+        };
+        Read { form, places }
+    }
+
+    fn line(&mut self, mut line: Line, later: &mut Later) -> Result<(), Fault> {
+        let start = line.place();
+        match line.word().as_str() {
+            "letters" => self.letters(start, line)?,
+            "field" => self.field(line)?,
+            "pair" => later.pairs.push(line),
+            "rule" => later.rules.push(line),
+            _ => {
+                return fault_at(
+                    start,
+                    "a line starts with `letters`, `field`, `pair` or `rule`",
+                )
+            }
+        }
+        Ok(())
+    }
+
+    fn letters(&mut self, start: Place, mut line: Line) -> Result<(), Fault> {
+        if let Some(first) = self.places.letters.first() {
+            return fault_at(
+                start,
+                format!("a second line of letters; the first is line {}", first.line),
+            );
+        }
+        while line.peek().is_some() {
+            self.places.letters.push(line.place());
+            self.form.letters.push(line.letter()?);
+        }
+        if self.form.letters.is_empty() {
+            return line.fault("at least one letter is needed");
+        }
+        Ok(())
+    }
+
+    fn field(&mut self, mut line: Line) -> Result<(), Fault> {
+        line.peek();
+        let start = line.place();
+        let name = line.word();
+        if name.is_empty() {
+            let found = line.found();
+            return line.fault(format!("expected the field's name, and found {found}"));
+        }
+        if let Some(number) = self.named(&name) {
+            let first = self.places.fields[number].line;
+            return fault_at(
+                start,
+                format!("a second field `{name}`; the first is on line {first}"),
+            );
+        }
+        line.peek();
+        let place = line.place();
+        match line.number()? {
+            Some(limit) => self.form.fields.push(Field {
+                name,
+                limit: limit as u64,
+            }),
+            None => {
+                let found = line.found();
+                return line.fault(format!("expected the limit of `{name}`, the most letters of its text, and found {found}"));
+            }
+        }
+        self.places.fields.push(start);
+        self.places.limits.push(place);
+        line.end("the limit")
+    }
+
+    /// The number of a field.
+    fn named(&self, name: &str) -> Option<usize> {
+        self.form.fields.iter().position(|field| field.name == name)
+    }
+
+    fn pair(&mut self, mut line: Line) -> Result<(), Fault> {
+        line.peek();
+        let start = line.place();
+        let (left, left_places) = self.template(&mut line)?;
+        line.expect('=', "between the two templates")?;
+        let (right, right_places) = self.template(&mut line)?;
+        line.end("the right template")?;
+        self.form.pairs.push(Pair { left, right });
+        self.places.pairs.push(PairPlaces {
+            start,
+            left: left_places,
+            right: right_places,
+        });
+        Ok(())
+    }
+
+    /// Symbols up to a `=` or the end of the line.
+    fn template(&self, line: &mut Line) -> Result<(Vec<Symbol>, Vec<Place>), Fault> {
+        let (mut symbols, mut places) = (Vec::new(), Vec::new());
+        while let Some(next) = line.peek() {
+            if next == '=' {
+                break;
+            }
+            places.push(line.place());
+            symbols.push(if line.passes('{') {
+                Symbol::Field(self.field_name(line, '}')?)
+            } else {
+                self.letter(line)?
+            });
+        }
+        Ok((symbols, places))
+    }
+
+    fn letter(&self, line: &mut Line) -> Result<Symbol, Fault> {
+        let place = line.place();
+        let letter = line.letter()?;
+        match self.form.letters.iter().position(|&known| known == letter) {
+            Some(number) => Ok(Symbol::Letter(number)),
+            None => fault_at(
+                place,
+                format!("`{}` is not on the line of letters", char::from(letter)),
+            ),
+        }
+    }
+
+    /// The number of the field whose name comes next, with a sign after it.
+    fn field_name(&self, line: &mut Line, end: char) -> Result<usize, Fault> {
+        line.peek();
+        let place = line.place();
+        let name = line.word();
+        if name.is_empty() {
+            let found = line.found();
+            return fault_at(place, format!("expected a field's name, and found {found}"));
+        }
+        line.expect(end, "after the field's name")?;
+        match self.named(&name) {
+            Some(number) => Ok(number),
+            None => fault_at(place, format!("there is no line `field {name} ..`")),
+        }
+    }
+
+    /// A rule, or two where both sides are to be the same.
+    fn rule(&mut self, mut line: Line) -> Result<(), Fault> {
+        line.peek();
+        let start = line.place();
+        let relation = rule::relation(&mut line, &|line| self.field_name(line, ')'))?;
+        line.end("the rule")?;
+        for bound in relation.bounds() {
+            let mut coefficients = vec![0; self.form.fields.len()];
+            for &(field, coefficient) in &bound.terms {
+                coefficients[field] += coefficient;
+            }
+            let limit = match i16::try_from(bound.limit) {
+                Ok(limit) => limit,
+                Err(_) => {
+                    let limit = bound.limit;
+                    return fault_at(start, format!("this asks for a sum of at most {limit}; a rule's limit is from -32768 to 32767"));
+                }
+            };
+            self.form.rules.push(Rule {
+                coefficients,
+                limit,
+            });
+            self.places.rules.push(RulePlaces {
+                start,
+                fields: relation.places.clone(),
+            });
+        }
+        Ok(())
+    }
+}

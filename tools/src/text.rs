@@ -1,0 +1,92 @@
+//! Writes a sheet in the text form, so that reading it gives the same bytes.
+
+use crate::form::{Form, Pair, Rule, Symbol};
+
+/// The letters that mean something else in the text form, unless a backslash stands before them.
+pub const SPECIAL: &str = "{}=#\\";
+
+impl Form {
+    /// The whole sheet, line by line.
+    pub fn text(&self) -> String {
+        let mut text = letters_line(&self.letters) + "\n";
+        for field in &self.fields {
+            text += &format!("field {} {}\n", field.name, field.limit);
+        }
+        for pair in &self.pairs {
+            text += &format!("pair {}\n", self.pair_text(pair));
+        }
+        for rule in &self.rules {
+            text += &format!("rule {}\n", self.rule_text(rule));
+        }
+        text
+    }
+
+    /// The line of letters as it would be in their order, each once.
+    pub fn letters_in_order(&self) -> String {
+        let mut letters = self.letters.clone();
+        letters.sort_unstable();
+        letters.dedup();
+        letters_line(&letters)
+    }
+
+    fn pair_text(&self, pair: &Pair) -> String {
+        let template = |symbols: &[Symbol]| -> String {
+            symbols.iter().map(|&symbol| self.label(symbol)).collect()
+        };
+        let sides = [template(&pair.left), "=".to_string(), template(&pair.right)];
+        sides.join(" ").trim().to_string()
+    }
+
+    /// A symbol as a template shows it.
+    pub fn label(&self, symbol: Symbol) -> String {
+        match symbol {
+            Symbol::Letter(letter) => escaped(self.letters[letter]),
+            Symbol::Field(field) => format!("{{{}}}", self.fields[field].name),
+        }
+    }
+
+    /// With `>=` where the first coefficient is negative, so that `-len(a) <= -1` reads `len(a) >= 1`.
+    fn rule_text(&self, rule: &Rule) -> String {
+        let first = rule
+            .coefficients
+            .iter()
+            .find(|&&coefficient| coefficient != 0);
+        let turned = first.map_or(false, |&coefficient| coefficient < 0);
+        let sign = if turned { -1 } else { 1 };
+        let mut sum = String::new();
+        for (field, coefficient) in self.fields.iter().zip(&rule.coefficients) {
+            let coefficient = sign * coefficient;
+            if coefficient == 0 {
+                continue;
+            }
+            sum += match (sum.is_empty(), coefficient < 0) {
+                (true, _) => "",
+                (false, true) => " - ",
+                (false, false) => " + ",
+            };
+            if coefficient.abs() != 1 {
+                sum += &format!("{}*", coefficient.abs());
+            }
+            sum += &format!("len({})", field.name);
+        }
+        if sum.is_empty() {
+            sum += "0";
+        }
+        let relation = if turned { ">=" } else { "<=" };
+        format!("{sum} {relation} {}", sign * i64::from(rule.limit))
+    }
+}
+
+fn letters_line(letters: &[u8]) -> String {
+    let letters = letters.iter().map(|&letter| escaped(letter));
+    format!("letters {}", letters.collect::<Vec<_>>().join(" "))
+}
+
+fn escaped(letter: u8) -> String {
+    let letter = char::from(letter);
+    if SPECIAL.contains(letter) {
+        format!("\\{letter}")
+    } else {
+        letter.to_string()
+    }
+}
