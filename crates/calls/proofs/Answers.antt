@@ -44,7 +44,7 @@ pub record Check : Type 0 where
   pub of : List ℕ
   pub answer : Answer
 
-abbrev pub _checks_ : List ℕ → Answer → Check
+abbrev _checks_ : List ℕ → Answer → Check
 _checks_ m a = record { on = asked; of = m; answer = a }
 
 infix 5 _checks_
@@ -96,7 +96,7 @@ pub record Spell : Type 0 where
 abbrev pub spells : List ℕ → ℕ → ℕ → List ℕ → ℕ → Answer → Spell
 spells b p side m room a = record { on = b; pair = p; side = side; of = m; room = room; answer = a }
 
-abbrev pub spellings : List Spell
+abbrev spellings : List Spell
 spellings =
     -- XAY and AY with X=BA, Y=B; the second pair's sides
     spells asked 0 0 (nine 2 1 0 ++ nine 1 1 255) 4 (finished (66 ∷ 65 ∷ 65 ∷ 66 ∷ []))
@@ -159,7 +159,7 @@ pub record Search : Type 0 where
   pub room : ℕ
   pub answer : Answer
 
-abbrev pub searches : List Search
+abbrev searches : List Search
 searches =
     record { on = P; room = 9; answer = finished (1 ∷ []) }
     -- only empty texts clash

@@ -18,7 +18,7 @@ use Rattle.model.proofs.Computed.{sheet, P}
 use Rattle.calls.proofs.Answers.{asked, leftOver, fieldless, ruled, nine, empty}
 
 -- X of limit 1 against A, and Y of limit 1 in no template
-abbrev pub unused : List ℕ
+abbrev unused : List ℕ
 unused = sheet 1 2 1 0 (65 ∷ 1 ∷ 1 ∷ 1 ∷ 1 ∷ 128 ∷ 0 ∷ [])
 
 -- over A and B, X of limit 3 against AB
@@ -26,7 +26,7 @@ abbrev pub wide : List ℕ
 wide = sheet 2 1 1 0 (65 ∷ 66 ∷ 3 ∷ 1 ∷ 2 ∷ 128 ∷ 0 ∷ 1 ∷ [])
 
 -- the s line with its end
-abbrev pub sat : List ℕ
+abbrev sat : List ℕ
 sat = satisfiableLine ++ (10 ∷ [])
 
 pub record Reply : Type 0 where

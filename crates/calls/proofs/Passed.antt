@@ -12,7 +12,7 @@ use Rattle.model.specs.Lists.{Bytes}
 use Rattle.model.specs.Sheet.{Sheet, got, letterOf, equation, template, Accepted, sheetOf}
 use Rattle.model.specs.Word.{Substitution, Legal, letterBytes, spell, EquationHolds, Solves, solves}
 use Rattle.model.specs.Filling.{filling, encodeFilling}
-use Rattle.calls.specs.Report.{line, pairName, pairLine}
+use Rattle.calls.specs.Report.{labelledLine, pairName, pairLine}
 use Rattle.calls.specs.Calls.{finished, verdict, checking, spelling, spellingOf, spelledText}
 use Rattle.model.proofs.Lists.{by-test, at}
 use Rattle.model.proofs.Known.{accepted-in-range}
@@ -117,7 +117,7 @@ pub solution-checks : (b : List ℕ) → Bytes b → Accepted b → (g : Substit
 solution-checks b y ok g h = solves-passed b (encodeFilling g) y g (record { accepted = ok; legal = h .is-legal; bytes = refl }) h
 
 -- In a clash a pair's right side spells what its left side does, which is what is printed.
-pub pair-both : (s : Sheet) (g : Substitution) → Solves s g → (p : ℕ) → p < length (s .equations) → pairLine s g p ≡ line pairName p (letterBytes s (spell g (equation s p .right)))
+pub pair-both : (s : Sheet) (g : Substitution) → Solves s g → (p : ℕ) → p < length (s .equations) → pairLine s g p ≡ labelledLine pairName p (letterBytes s (spell g (equation s p .right)))
 pair-both s g h p l =
     let e = at (EquationHolds s g) (s .equations) p (record { left = []; right = [] }) (h .equations-hold) l in
-    ap (λ w. line pairName p (letterBytes s w)) (same-word-equal s (spell g (equation s p .left)) (spell g (equation s p .right)) e)
+    ap (λ w. labelledLine pairName p (letterBytes s w)) (same-word-equal s (spell g (equation s p .left)) (spell g (equation s p .right)) e)

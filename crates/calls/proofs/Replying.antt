@@ -57,11 +57,11 @@ module _ (b t : List ℕ) (room : ℕ) where
       replying-text h = sheet-accepted b _ ok ∙ rw (le-leb (9 * length (sheetOf b .limits)) room enough, in-size t h)
 
 -- A text that lists an assignment is of the reply form, and a text that goes on lists what it makes true.
-pub lists-formed : (s : Sheet) (t : List ℕ) (w : Assignment) → Lists s t w → (go : Answer) → formed (length (variables s)) t go ≡ go
+lists-formed : (s : Sheet) (t : List ℕ) (w : Assignment) → Lists s t w → (go : Answer) → formed (length (variables s)) t go ≡ go
 unfolding formed
 lists-formed s t w h go = rw (h .keeps31, h .keeps32, h .keeps33, h .keeps34, h .keeps35, h .keeps36)
 
-pub formed-lists : (s : Sheet) (t : List ℕ) (go : Answer) {vs : List ℕ} → formed (length (variables s)) t go ≡ finished vs → Lists s t (assigned t) × (go ≡ finished vs)
+formed-lists : (s : Sheet) (t : List ℕ) (go : Answer) {vs : List ℕ} → formed (length (variables s)) t go ≡ finished vs → Lists s t (assigned t) × (go ≡ finished vs)
 unfolding formed
 formed-lists s t go e =
     let a = required (lineEnded t) 31 _ e in

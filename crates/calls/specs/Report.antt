@@ -18,8 +18,8 @@ abbrev pub clashLine : List ℕ
 clashLine = 99 ∷ 108 ∷ 97 ∷ 115 ∷ 104 ∷ 10 ∷ []
 
 -- a name with a space after it, a number, "=", a text, a line end
-abbrev pub line : List ℕ → ℕ → List ℕ → List ℕ
-line name n t = name ++ (((48 + n) ∷ 61 ∷ []) ++ (t ++ (10 ∷ [])))
+abbrev pub labelledLine : List ℕ → ℕ → List ℕ → List ℕ
+labelledLine name n t = name ++ (((48 + n) ∷ 61 ∷ []) ++ (t ++ (10 ∷ [])))
 
 -- "field " and "pair "
 abbrev pub fieldName : List ℕ
@@ -29,11 +29,11 @@ abbrev pub pairName : List ℕ
 pairName = 112 ∷ 97 ∷ 105 ∷ 114 ∷ 32 ∷ []
 
 abbrev pub fieldLine : Sheet → Substitution → ℕ → List ℕ
-fieldLine s g f = line fieldName f (letterBytes s (text g f))
+fieldLine s g f = labelledLine fieldName f (letterBytes s (text g f))
 
 -- in a clash both sides spell it; it is taken from the left
 abbrev pub pairLine : Sheet → Substitution → ℕ → List ℕ
-pairLine s g p = line pairName p (letterBytes s (spell g (equation s p .left)))
+pairLine s g p = labelledLine pairName p (letterBytes s (spell g (equation s p .left)))
 
 unfoldable pub report : Sheet → Substitution → List ℕ
 report s g = clashLine ++ (each (upTo (length (s .limits))) (fieldLine s g) ++ each (upTo (length (s .equations))) (pairLine s g))

@@ -54,7 +54,7 @@ signed-small (negsuc n) h = h
 abbrev pub read : ℤ → ℤ
 read z = toZ w16 (ofZ w16 z)
 
-abbrev pub widened : ℤ → ℤ
+abbrev widened : ℤ → ℤ
 widened z = toZ w32 (ofZ w32 (read z))
 
 module _ (m l : ℤ) (limited : Signed16 m) (few : natAbs l ≤ 192) where

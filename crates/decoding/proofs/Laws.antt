@@ -31,7 +31,7 @@ module _ (s : Sheet) (n : ℕ) (t m : List ℕ) (all : n ≡ suc (length (variab
       ∙ decoding-alike s (assigned t) (truth m) (λ k low high. sym (h .2 k (omega arith)))
 
 -- the first of marks that are not set
-abbrev pub clear : ℕ → List ℕ
+abbrev clear : ℕ → List ℕ
 clear k = replicate k 0
 
 pub clear-length : (n k : ℕ) → n ≤ k → length (take n (clear k)) ≡ n

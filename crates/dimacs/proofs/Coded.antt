@@ -19,7 +19,7 @@ minus zero h = absurd (omega arith)
 minus (suc n) h = refl
 
 -- a literal's code is written as the literal
-pub code-bytes : (s : Sheet) (l : Literal) → codeBytes (codeOf s l) ≡ literalBytes (signedNumber s l)
+code-bytes : (s : Sheet) (l : Literal) → codeBytes (codeOf s l) ≡ literalBytes (signedNumber s l)
 code-bytes s (is x) =
     let h = positive s x in
     let n : ℕ = number s x in

@@ -1,11 +1,9 @@
 // The public calls for C and Rust. Each returns minus a refusal's number, or its answer, 0 or more; what is lent to it is
-// untouched on a refusal. The work is in the crates below.
+// untouched on a refusal. Each is one call of a function below it with the same contract, which does the work.
 ghost use mathlib.Core.Path.{_≡_};
-ghost use Prim.Native.Nat.{_<_};
-ghost use lib.IntN.{pos, negℤ};
 ghost use lib.ListN.{length};
 ghost use Rattle.calls.specs.Calls.{reading, checking, spelling, counting, writing, replying};
-ghost use Rattle.engine.specs.Returned.{returned, lentAfter, returnedNumber, Handed, HandedOver, Sought};
+ghost use Rattle.c_answer.specs.Returned.{returned, lentAfter, returnedNumber, Handed, HandedOver, Sought};
 
 // Reads a sheet of any bytes. Returns 0, with its four counts (letters, fields, pairs, rules) in `counts`; or minus
 // document 01's number of the first refusal, with `counts` as it was.
@@ -13,17 +11,7 @@ ghost use Rattle.engine.specs.Returned.{returned, lentAfter, returnedNum
 pub extern "C" fn tpl_read(sheet: &[u8], counts: &mut [u64; 4]) -> i64
     ensures { λ r. ⌜ (r ≡ returned (reading (now (sheet .entry)))) × (now (counts .exit) ≡ lentAfter (reading (now (sheet .entry))) (now (counts .entry))) ⌝ }
 {
-    match sheet::read(sheet) {
-        sheet::Reading::Refused(refusal) => minus(sheet::number(refusal)),
-        sheet::Reading::Accepted(found) => {
-            let letters = found.letters as u64;
-            let fields = found.fields as u64;
-            let equations = found.equations as u64;
-            let constraints = found.constraints as u64;
-            *counts = [letters, fields, equations, constraints];
-            0
-        }
-    }
+    c_sheet::read(sheet, counts)
 }
 
 // Checks a filling, of any bytes. Returns 1 for a clash, 0 for none; or minus document 01's number of the first refusal.
@@ -31,11 +19,7 @@ pub extern "C" fn tpl_read(sheet: &[u8], counts: &mut [u64; 4]) -> i64
 pub extern "C" fn tpl_check(sheet: &[u8], filling: &[u8]) -> i64
     ensures { λ r. ⌜ r ≡ returnedNumber (checking (now (sheet .entry)) (now (filling .entry))) ⌝ }
 {
-    match substitution::check(sheet, filling) {
-        substitution::Checking::Solves => 1,
-        substitution::Checking::DoesNot => 0,
-        substitution::Checking::Refused(refusal) => minus(substitution::number(refusal)),
-    }
+    c_sheet::check(sheet, filling)
 }
 
 // Spells one template under a filling, into `text`: of a pair the left one for side 0, the right one for side 1. Returns the text's
@@ -50,10 +34,7 @@ pub extern "C" fn tpl_spell(
 ) -> i64
     ensures { λ r. ⌜ Handed (spelling (now (sheet .entry)) pair side (now (filling .entry)) (length (now (text .entry)))) (now (text .entry)) r (now (text .exit)) ⌝ }
 {
-    match substitution::spell(sheet, pair as usize, side as usize, filling, text) {
-        substitution::Spelling::Length(n) => n as i64,
-        substitution::Spelling::Refused(refusal) => minus(substitution::number(refusal)),
-    }
+    c_sheet::spell(sheet, pair, side, filling, text)
 }
 
 // Searches a sheet for a clash. Returns 1 for a clash, with a filling that clashes in the first 9 bytes of `filling` for each field and later
@@ -62,11 +43,7 @@ pub extern "C" fn tpl_spell(
 pub extern "C" fn tpl_search(sheet: &[u8], filling: &mut [u8]) -> i64
     ensures { λ r. ⌜ Sought (now (sheet .entry)) (now (filling .entry)) r (now (filling .exit)) ⌝ }
 {
-    match automaton::search(sheet, filling) {
-        automaton::Verdict::Solution => 1,
-        automaton::Verdict::Unsatisfiable => 0,
-        automaton::Verdict::Refused(refusal) => minus(automaton::number(refusal)),
-    }
+    c_search::search(sheet, filling)
 }
 
 // Counts the variables and clauses of a sheet's clause file. Returns 0, with the variables, the clauses and a size that is at least the
@@ -75,16 +52,7 @@ pub extern "C" fn tpl_search(sheet: &[u8], filling: &mut [u8]) -> i64
 pub extern "C" fn tpl_count(sheet: &[u8], counts: &mut [u64; 3]) -> i64
     ensures { λ r. ⌜ (r ≡ returned (counting (now (sheet .entry)))) × (now (counts .exit) ≡ lentAfter (counting (now (sheet .entry))) (now (counts .entry))) ⌝ }
 {
-    match encoding::count(sheet) {
-        encoding::Counting::Refused(refusal) => minus(sheet::number(refusal)),
-        encoding::Counting::Counts(found) => {
-            let variables = found.variables as u64;
-            let clauses = found.clauses as u64;
-            let allowance = found.allowance as u64;
-            *counts = [variables, clauses, allowance];
-            0
-        }
-    }
+    c_clauses::count(sheet, counts)
 }
 
 // Writes line `line` of a sheet's clause file into `text`. Returns the line's length, with later bytes as they were; or minus document
@@ -93,10 +61,7 @@ pub extern "C" fn tpl_count(sheet: &[u8], counts: &mut [u64; 3]) -> i64
 pub extern "C" fn tpl_line(sheet: &[u8], line: u64, text: &mut [u8]) -> i64
     ensures { λ r. ⌜ Handed (writing (now (sheet .entry)) line (length (now (text .entry)))) (now (text .entry)) r (now (text .exit)) ⌝ }
 {
-    match encoding::write_line(sheet, line as usize, text) {
-        encoding::Writing::Length(n) => n as i64,
-        encoding::Writing::Refused(refusal) => minus(encoding::number(refusal)),
-    }
+    c_clauses::line(sheet, line, text)
 }
 
 // Reads a solver's reply to a sheet's clause file. Returns 0 for a reply that is accepted, with the filling that it spells, which clashes, in the
@@ -106,15 +71,5 @@ pub extern "C" fn tpl_line(sheet: &[u8], line: u64, text: &mut [u8]) -> i64
 pub extern "C" fn tpl_reply(sheet: &[u8], reply: &[u8], filling: &mut [u8]) -> i64
     ensures { λ r. ⌜ HandedOver (replying (now (sheet .entry)) (now (reply .entry)) (length (now (filling .entry)))) (now (filling .entry)) r (now (filling .exit)) ⌝ }
 {
-    match decoding::read_reply(sheet, reply, filling) {
-        decoding::Reply::Accepted => 0,
-        decoding::Reply::Refused(refusal) => minus(decoding::number(refusal)),
-    }
-}
-
-// Minus a refusal's number, which is a byte.
-fn minus(number: u8) -> i64
-    ensures { λ r. ⌜ (r ≡ negℤ (pos number)) × (number < 256) ⌝ }
-{
-    0 - (number as i64)
+    c_replies::reply(sheet, reply, filling)
 }

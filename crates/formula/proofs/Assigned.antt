@@ -17,7 +17,7 @@ use Rattle.formula.specs.Assignment.{Assignment, satisfied, trueValues, 
 use Rattle.formula.proofs.ClauseFiles.{P, minus}
 
 -- the assignment that makes just these true
-abbrev pub trues : List ℕ → Assignment
+abbrev trues : List ℕ → Assignment
 trues ns n = any (eqb n) ns
 
 -- all choices of some of the numbers
@@ -26,12 +26,12 @@ choices [] = [] ∷ []
 choices (n ∷ ns) = choices ns ++ map (λ c. n ∷ c) (choices ns)
 
 -- those choices of a sheet's variables that satisfy its clauses
-abbrev pub satisfying : Sheet → List (List ℕ)
+abbrev satisfying : Sheet → List (List ℕ)
 satisfying s = keep (λ ns. satisfied s (trues ns)) (choices (from 1 (length (variables s))))
 
 pub record Found : Type 0 where
   pub sheet : Sheet
-  pub assignments : List (List ℕ)
+  assignments : List (List ℕ)
   pub substitutions : List Substitution
 
 abbrev pub found : List Found
@@ -79,7 +79,7 @@ unfolding all each from any keep total cells terms leftOut literals least spread
 all-satisfying = refl
 
 -- each place has just one value, in the field that no template uses too
-abbrev pub oneEverywhere : Sheet → Assignment → Bool
+abbrev oneEverywhere : Sheet → Assignment → Bool
 oneEverywhere s w = all (λ f. all (λ c. eqb (length (trueValues s w f c)) 1) (upTo (limit s f))) (upTo (fields s))
 
 pub all-one-value : all (λ (c : Found). all (λ (ns : List ℕ). oneEverywhere (c .sheet) (trues ns)) (c .assignments)) found ≡ true

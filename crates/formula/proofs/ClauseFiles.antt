@@ -26,7 +26,7 @@ pub record ClauseFile : Type 0 where
 abbrev pub P : Sheet
 P = record { letters = 65 ∷ []; limits = 1 ∷ []; equations = record { left = field 0 ∷ []; right = letter 0 ∷ [] } ∷ []; constraints = [] }
 
-abbrev pub clauseFiles : List ClauseFile
+abbrev clauseFiles : List ClauseFile
 clauseFiles =
     -- document 01's sheet P: "one field X of limit 1 against A"
     record {

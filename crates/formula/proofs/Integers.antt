@@ -31,7 +31,7 @@ pub eqZ-refl : (a : ℤ) → eqZ a a ≡ true
 eqZ-refl (pos a) = eq-eqb a a refl
 eqZ-refl (negsuc a) = eq-eqb a a refl
 
-pub shuffle : (a b c d : ℤ) → (a +ℤ b) +ℤ (c +ℤ d) ≡ (a +ℤ c) +ℤ (b +ℤ d)
+shuffle : (a b c d : ℤ) → (a +ℤ b) +ℤ (c +ℤ d) ≡ (a +ℤ c) +ℤ (b +ℤ d)
 shuffle a b c d =
     +ℤ-assoc a b (c +ℤ d)
     ∙ ap (λ z. a +ℤ z) (sym (+ℤ-assoc b c d) ∙ ap (λ z. z +ℤ d) (+ℤ-comm b c) ∙ +ℤ-assoc c b d)
@@ -45,15 +45,15 @@ neg-up (suc x) zero h = let e : suc x - 0 ≡ suc x = omega arith in rw (e, le-l
 neg-up (suc x) (suc y) h = rw (lt-ltb (suc x - suc y) (suc x) (omega arith)) (ap negsuc (omega arith))
 
 -- how far coefficient × length is above the lowest that the limit allows
-abbrev pub rise : ℤ → ℕ → ℕ → ℕ
+abbrev rise : ℤ → ℕ → ℕ → ℕ
 rise (pos a) n d = a * d
 rise (negsuc a) n d = suc a * n - suc a * d
 
-pub rise-is : (c : ℤ) (n d : ℕ) → d ≤ n → c *ℤ pos d ≡ lowest c n +ℤ pos (rise c n d)
+rise-is : (c : ℤ) (n d : ℕ) → d ≤ n → c *ℤ pos d ≡ lowest c n +ℤ pos (rise c n d)
 rise-is (pos a) n d h = ap pos (omega arith)
 rise-is (negsuc a) n d h = let k : suc a ≤ suc a = omega arith in neg-up (suc a * n) (suc a * d) (mul-le-mul k h)
 
-pub rise-small : (c : ℤ) (n d : ℕ) → d ≤ n → rise c n d ≤ natAbs c * n
+rise-small : (c : ℤ) (n d : ℕ) → d ≤ n → rise c n d ≤ natAbs c * n
 rise-small (pos a) n d h = let k : a ≤ a = omega arith in mul-le-mul k h
 rise-small (negsuc a) n d h = omega arith
 
@@ -62,11 +62,11 @@ highest-is : (c : ℤ) (n : ℕ) → lowest c n +ℤ pos (natAbs c * n) ≡ high
 highest-is (pos a) n = ap pos (omega arith)
 highest-is (negsuc a) n = let e : suc a * n - 0 ≡ suc a * n = omega arith in rw e at (sym (neg-up (suc a * n) 0 (omega arith)))
 
-abbrev pub lowestAt : ℤ → ℕ → ℕ
+abbrev lowestAt : ℤ → ℕ → ℕ
 lowestAt (pos a) n = 0
 lowestAt (negsuc a) n = n
 
-abbrev pub highestAt : ℤ → ℕ → ℕ
+abbrev highestAt : ℤ → ℕ → ℕ
 highestAt (pos a) n = n
 highestAt (negsuc a) n = 0
 

@@ -50,13 +50,13 @@ figures-read minus n (x ∷ xs) ys h =
     rw (ne-eqb x 32 (λ e. omega arith), ne-eqb x 10 (λ e. omega arith), ne-eqb x 45 (λ e. omega arith), or-false minus)
     (figures-read minus (n * 10 + (x - 48)) xs ys (h .1))
 
-pub decimal-read : (minus : Bool) (n : ℕ) (ys : List ℕ)
+decimal-read : (minus : Bool) (n : ℕ) (ys : List ℕ)
     → numbersFrom minus 0 (decimal n ++ (32 ∷ ys)) ≡ withSign minus n ∷ numbersFrom false 0 ys
 unfolding numbersFrom
 decimal-read minus n ys =
     figures-read minus 0 (decimal n) (32 ∷ ys) (decimal-digits n) ∙ ap (λ k. numbersFrom minus k (32 ∷ ys)) (decimal-value n)
 
-pub literal-read : (z : ℤ) (ys : List ℕ) → numbersFrom false 0 (literalBytes z ++ ys) ≡ z ∷ numbersFrom false 0 ys
+literal-read : (z : ℤ) (ys : List ℕ) → numbersFrom false 0 (literalBytes z ++ ys) ≡ z ∷ numbersFrom false 0 ys
 unfolding numbersFrom
 literal-read (pos n) ys = ap (numbersFrom false 0) (append-assoc (decimal n) (32 ∷ []) ys) ∙ decimal-read false n ys
 literal-read (negsuc n) ys = ap (numbersFrom true 0) (append-assoc (decimal (suc n)) (32 ∷ []) ys) ∙ decimal-read true (suc n) ys
@@ -127,7 +127,7 @@ module _ (s : Sheet) (ok : InRange s) where
       each-in P (map (λ a. yes (K f c a)) (upTo n)) literalOf
       (map-in (λ t. All P (literalOf t)) (λ a. yes (K f c a)) (upTo n)
       (below-in (λ a. All P (literalOf (yes (K f c a)))) n (λ a l.
-      let x = value-small s f c a (h .0, h .1, omega arith) in
+      let x = value-small s f c a (h, omega arith) in
       let y = k-small s ok in
       let z = decimal-short-three (number s (K f c a)) (omega arith) in
       let w = length-append (decimal (number s (K f c a))) (32 ∷ []) in

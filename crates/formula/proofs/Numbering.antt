@@ -113,8 +113,8 @@ row-in w m i j a b =
 pub value-small : (s : Sheet) (f c a : ℕ) → VariableIn s (K f c a) → number s (K f c a) ≤ kCount s
 unfolding number
 value-small s f c a h =
-    let inside = row-in (suc (blank s)) (limit s f) c a (h .1) (omega (arith, h .2)) in
-    let whole = total-fits (fields s) (kSize s) f (c * suc (blank s) + a) (h .0) inside in
+    let inside = row-in (suc (blank s)) (limit s f) c a (h .0 .1) (omega (arith, h .1)) in
+    let whole = total-fits (fields s) (kSize s) f (c * suc (blank s) + a) (h .0 .0) inside in
     omega arith
 
 pub number-small : (s : Sheet) (x : Variable) → VariableIn s x → number s x ≤ variableCount s
@@ -135,8 +135,8 @@ number-small s (T r k n) h =
 variables-out : (s : Sheet) (P : Variable → Type 0) → All P (variables s) → (x : Variable) → VariableIn s x → P x
 unfolding variables kVariables sVariables tVariables sums
 variables-out s P h (K f c a) k =
-    let at-place = loop-out P _ _ (loop-out P _ _ (append-out P (kVariables s) _ h .0) f (k .0)) c (k .1) in
-    below-out (λ a. P (K f c a)) _ (map-out P (K f c) _ at-place) a (omega (arith, k .2))
+    let at-place = loop-out P _ _ (loop-out P _ _ (append-out P (kVariables s) _ h .0) f (k .0 .0)) c (k .0 .1) in
+    below-out (λ a. P (K f c a)) _ (map-out P (K f c) _ at-place) a (omega (arith, k .1))
 variables-out s P h (S p i j) k =
     let others = append-out P (sVariables s) _ (append-out P (kVariables s) _ h .1) .0 in
     let at-row = loop-out P _ _ (loop-out P _ _ others p (k .0)) i (omega (arith, k .1)) in

@@ -26,7 +26,7 @@ unfolding assign
 assign-names s g x h = ap (valuation s g) (sym (variable-of s x h))
 
 assign-reads : (s : Sheet) (g : Substitution) → Reads s (named s (assign s g)) g
-assign-reads s g f c a h k l = sym (assign-names s g (K f c a) (h, k, l)) ∙ valuation-reads s g f c a h k l
+assign-reads s g f c a h k l = sym (assign-names s g (K f c a) ((h, k), l)) ∙ valuation-reads s g f c a h k l
 
 module _ (b : List ℕ) (ok : Accepted b) where
   abbrev s : Sheet

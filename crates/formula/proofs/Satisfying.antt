@@ -104,7 +104,7 @@ module _ (s : Sheet) (w u : Assignment) (alike : Alike s w u) where
   pub values-alike : (f c : ℕ) → f < fields s → c < limit s f → trueValues s w f c ≡ trueValues s u f c
   unfolding trueValues
   values-alike f c h k =
-      keep-below (λ a. named s w (K f c a)) (λ a. named s u (K f c a)) (suc (blank s)) (λ a l. alike-named (K f c a) (h, k, omega arith))
+      keep-below (λ a. named s w (K f c a)) (λ a. named s u (K f c a)) (suc (blank s)) (λ a l. alike-named (K f c a) ((h, k), omega arith))
 
   pub held-alike : (f c : ℕ) → f < fields s → c < limit s f → held s w f c ≡ held s u f c
   held-alike f c h k = ap (λ (xs : List ℕ). getD xs 0 (blank s)) (values-alike f c h k)

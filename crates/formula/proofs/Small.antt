@@ -35,10 +35,10 @@ total-grows (suc n) (suc m) h g l f = by-test (ltb n m)
     let this : h n ≤ g m = rw (sym same) (f n (omega arith)) in
     omega arith)
 
-pub total-part : (n m : ℕ) (h : ℕ → ℕ) → n ≤ m → total n h ≤ total m h
+total-part : (n m : ℕ) (h : ℕ → ℕ) → n ≤ m → total n h ≤ total m h
 total-part n m h l = total-grows n m h h l (λ i _. omega arith)
 
-pub total-small : (n m b : ℕ) (h : ℕ → ℕ) → n ≤ m → ((i : ℕ) → i < n → h i ≤ b) → total n h ≤ m * b
+total-small : (n m b : ℕ) (h : ℕ → ℕ) → n ≤ m → ((i : ℕ) → i < n → h i ≤ b) → total n h ≤ m * b
 total-small n m b h l f =
     let e = total-const m b in
     let k = total-grows n m h (λ _. b) l f in
@@ -120,7 +120,7 @@ module _ (s : Sheet) (ok : InRange s) where
       let h : limit s f * suc (blank s) ≤ 8 * 9 = mul-le-mul (limit-small f) n in
       omega arith)
 
-  pub s-small : sCount s ≤ 2500
+  s-small : sCount s ≤ 2500
   s-small = total-small (length (s .equations)) 4 625 (sSize s) equations-few (λ p l.
       let c = cells-small p l in
       let m : suc (length (leftCells s p)) ≤ 25 = omega (arith, c .0) in
@@ -133,20 +133,20 @@ module _ (s : Sheet) (ok : InRange s) where
   rows-small r l = total-grows (suc (fields s)) 7 (rowSize s r) (λ k. suc (k * 32)) (let f = fields-few in omega arith) (λ k _.
       let h = spread-small r l k in omega arith)
 
-  pub t-small : tCount s ≤ 2716
+  t-small : tCount s ≤ 2716
   t-small = total-small (length (s .constraints)) 4 679 (tSize s) constraints-few rows-small
 
   -- and those before a field, an equation, a number of fields, a constraint
-  pub k-part : (f : ℕ) → f ≤ fields s → total f (kSize s) ≤ 432
+  k-part : (f : ℕ) → f ≤ fields s → total f (kSize s) ≤ 432
   k-part f l = let a = total-part f (fields s) (kSize s) l in let b = k-small in omega arith
 
-  pub s-part : (p : ℕ) → p ≤ length (s .equations) → total p (sSize s) ≤ 2500
+  s-part : (p : ℕ) → p ≤ length (s .equations) → total p (sSize s) ≤ 2500
   s-part p l = let a = total-part p (length (s .equations)) (sSize s) l in let b = s-small in omega arith
 
   pub rows-part : (r k : ℕ) → r < length (s .constraints) → k ≤ suc (fields s) → total k (rowSize s r) ≤ 679
   rows-part r k h l = let a = total-part k (suc (fields s)) (rowSize s r) l in let b = rows-small r h in omega arith
 
-  pub t-part : (r : ℕ) → r ≤ length (s .constraints) → total r (tSize s) ≤ 2716
+  t-part : (r : ℕ) → r ≤ length (s .constraints) → total r (tSize s) ≤ 2716
   t-part r l = let a = total-part r (length (s .constraints)) (tSize s) l in let b = t-small in omega arith
 
   pub parts-few : (x : Section) → parts s x ≤ 6

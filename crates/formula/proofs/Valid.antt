@@ -13,7 +13,7 @@ use Rattle.model.specs.Sheet.{Symbol, Sheet, limit, constraint, template}
 use Rattle.model.specs.Range.{SymbolIn, WellFormed}
 use Rattle.model.specs.Cells.{Cell, letter, place, symbolCells, cells}
 use Rattle.formula.specs.Clause.{K, Literal, is, isnt, Term, known, unknown, yes, no, holds, lacks, isBlank, notBlank, only, ClauseId, SomeValue, NotBoth, BlankTail, Start, Left, Right, Both, Match, End, Zero, Add, Bound, terms, literalOf, literals, blank, fields, cell, leftCells, rightCells}
-use Rattle.formula.specs.Numbering.{VariableIn}
+use Rattle.formula.specs.Numbering.{PlaceIn, VariableIn}
 use Rattle.formula.specs.Count.{IdIn}
 use Rattle.model.proofs.Lists.{weaken, at, map-in, each-in}
 use Rattle.model.proofs.Keeping.{below-in}
@@ -31,7 +31,7 @@ TermIn s (unknown l) = LiteralIn s l
 
 abbrev pub CellIn : Sheet → Cell → Type 0
 CellIn s (letter a) = a < blank s
-CellIn s (place f c) = (f < fields s) × (c < limit s f)
+CellIn s (place f c) = PlaceIn s f c
 
 module _ (s : Sheet) where
   symbol-cells-in : (x : Symbol) → SymbolIn (blank s) (fields s) x → All (CellIn s) (symbolCells s x)
@@ -47,11 +47,11 @@ module _ (s : Sheet) where
   -- of a cell: that it is a and that it is not, that it is blank and that it is not
   value-in : (u : Cell) (a : ℕ) → CellIn s u → a ≤ blank s → TermIn s (holds u a) × TermIn s (lacks u a)
   value-in (letter b) a h k = (tt, tt)
-  value-in (place f c) a h k = ((h .0, h .1, k), (h .0, h .1, k))
+  value-in (place f c) a h k = ((h, k), (h, k))
 
   blank-in : (u : Cell) → CellIn s u → TermIn s (isBlank s u) × TermIn s (notBlank s u)
   blank-in (letter b) h = (tt, tt)
-  blank-in (place f c) h = let k : blank s ≤ blank s = omega arith in ((h .0, h .1, k), (h .0, h .1, k))
+  blank-in (place f c) h = let k : blank s ≤ blank s = omega arith in ((h, k), (h, k))
 
   only-in : (b : Bool) (t : Term) → (b ≡ true → TermIn s t) → TermIn s (only b t)
   only-in true t h = h refl
@@ -78,9 +78,9 @@ module _ (s : Sheet) (ok : WellFormed s) where
   unfolding terms All
   terms-in (SomeValue f c) h =
       map-in (TermIn s) (λ a. yes (K f c a)) (upTo (suc (blank s)))
-      (below-in (λ a. VariableIn s (K f c a)) (suc (blank s)) (λ a l. (h .0, h .1, omega arith)))
-  terms-in (NotBoth f c a b) h = let l = h .1 in let m = h .2 in ((h .0 .0, h .0 .1, omega arith), ((h .0 .0, h .0 .1, m), tt))
-  terms-in (BlankTail f c) h = ((h .0 .0, h .0 .1, omega arith), ((h .0 .0, h .1, omega arith), tt))
+      (below-in (λ a. VariableIn s (K f c a)) (suc (blank s)) (λ a l. (h, omega arith)))
+  terms-in (NotBoth f c a b) h = let l = h .1 in let m = h .2 in ((h .0, omega arith), ((h .0, m), tt))
+  terms-in (BlankTail f c) h = ((h .0, omega arith), (((h .0 .0, h .1), omega arith), tt))
   terms-in (Start p) h = ((h, omega arith, omega arith), tt)
   terms-in (Left p i j) h =
       let l = h .0 in
@@ -106,9 +106,9 @@ module _ (s : Sheet) (ok : WellFormed s) where
       let m = h .3 in (
         (h .0, omega arith, h .2),
         (
-          only-in s (ltb 0 d) (yes (K k (d - 1) (blank s))) (λ t. let l = ltb-true 0 d t in (f, omega arith, omega arith)),
+          only-in s (ltb 0 d) (yes (K k (d - 1) (blank s))) (λ t. let l = ltb-true 0 d t in ((f, omega arith), omega arith)),
           (
-            only-in s (ltb d (limit s k)) (no (K k d (blank s))) (λ t. (f, ltb-true _ _ t, omega arith)),
+            only-in s (ltb d (limit s k)) (no (K k d (blank s))) (λ t. ((f, ltb-true _ _ t), omega arith)),
             ((h .0, f, sum-next s (constraint s r) k n d (h .2) m), tt),
           ),
         ),

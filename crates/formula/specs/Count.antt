@@ -9,12 +9,9 @@ use Rattle.model.specs.Lists.{pick, from, upTo, total}
 use Rattle.model.specs.Sheet.{Constraint, Sheet, limit, constraint}
 use Rattle.model.specs.Cells.{Cell, letter, place}
 use Rattle.formula.specs.Clause.{ClauseId, SomeValue, NotBoth, BlankTail, Start, Left, Right, Both, Match, End, Zero, Add, Bound, least, spread, blank, fields, cell, leftCells, rightCells}
-use Rattle.formula.specs.Numbering.{LocationIn, SumIn, kSize, sSize, tSize}
+use Rattle.formula.specs.Numbering.{PlaceIn, LocationIn, SumIn, kSize, sSize, tSize}
 
 -- Which names there are: their ranges.
-abbrev pub PlaceIn : Sheet → ℕ → ℕ → Type 0
-PlaceIn s f c = (f < fields s) × (c < limit s f)
-
 abbrev pub IdIn : Sheet → ClauseId → Type 0
 IdIn s (SomeValue f c) = PlaceIn s f c
 IdIn s (NotBoth f c a b) = PlaceIn s f c × (a < b) × (b ≤ blank s)

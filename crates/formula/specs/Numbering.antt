@@ -28,11 +28,14 @@ abbrev pub SumIn : Sheet → Constraint → ℕ → ℤ → Type 0
 SumIn s c k n =
     (n ≡ least s c k +ℤ pos (natAbs (n -ℤ least s c k))) × (natAbs (n -ℤ least s c k) ≤ spread s c k)
 
+abbrev pub PlaceIn : Sheet → ℕ → ℕ → Type 0
+PlaceIn s f c = (f < fields s) × (c < limit s f)
+
 abbrev pub LocationIn : Sheet → ℕ → ℕ → ℕ → Type 0
 LocationIn s p i j = (p < length (s .equations)) × (i ≤ length (leftCells s p)) × (j ≤ length (rightCells s p))
 
 abbrev pub VariableIn : Sheet → Variable → Type 0
-VariableIn s (K f c a) = (f < fields s) × (c < limit s f) × (a ≤ blank s)
+VariableIn s (K f c a) = PlaceIn s f c × (a ≤ blank s)
 VariableIn s (S p i j) = LocationIn s p i j
 VariableIn s (T r k n) = (r < length (s .constraints)) × (k ≤ fields s) × SumIn s (constraint s r) k n
 

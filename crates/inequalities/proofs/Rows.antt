@@ -41,7 +41,7 @@ module _ (g : Substitution) where
   symbol-length l (field f) h = let one = total-one 6 f (λ k. length (text g k)) .0 h in rw (ne-eqb f 6 (λ e. omega arith)) (omega arith)
 
   -- The length of a word: its letters, and each field's length as often as the field occurs.
-  pub spell-length : (l : ℕ) (t : List Symbol) → All (SymbolIn l 6) t → length (spell g t) ≡ letters t + total 6 (λ f. occurrences t f * length (text g f))
+  spell-length : (l : ℕ) (t : List Symbol) → All (SymbolIn l 6) t → length (spell g t) ≡ letters t + total 6 (λ f. occurrences t f * length (text g f))
   unfolding spell each occurrences All total
   spell-length l [] h = omega arith
   spell-length l (x ∷ xs) h =

@@ -41,9 +41,9 @@ form-line n t m m′ e r go = rw (e, r)
 -- What a text that ends well and has known lines comes to.
 pub record Come (n : ℕ) (t : List ℕ) (u : Tally) (m : List ℕ) : Type 0 where
   pub ended : lineEnded t ≡ true
-  pub lines-known : all known (lines t) ≡ true
+  lines-known : all known (lines t) ≡ true
   pub some : 0 < n
-  pub all-means : Means (n - 1) t (record { tally = u; marks = m })
+  all-means : Means (n - 1) t (record { tally = u; marks = m })
 
 pub come : (n : ℕ) (t : List ℕ) (u : Tally) (m₀ m : List ℕ) → lineEnded t ≡ true → 0 < n → m₀ ≡ replicate n 0 → ReadLines m₀ t (Known u) m
     → Come n t u m

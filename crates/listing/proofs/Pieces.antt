@@ -34,7 +34,7 @@ module _ (x : ℕ) where
 -- The piece of a line from an offset to the next space: the pieces, and the bytes, from there on.
 pub record Piece-at (line : List ℕ) (at end : ℕ) : Type 0 where
   pub pieces-are : split 32 (drop at (spaced line)) ≡ take (end - at) (drop at line) ∷ split 32 (drop (end + 1) (spaced line))
-  pub bytes-are : drop at (spaced line) ≡ take (end - at) (drop at line) ++ (32 ∷ drop (end + 1) (spaced line))
+  bytes-are : drop at (spaced line) ≡ take (end - at) (drop at line) ++ (32 ∷ drop (end + 1) (spaced line))
 
 -- as `cut` says it of what is left of the line: the piece is k bytes long
 module _ (line : List ℕ) (at end k : ℕ) (h : at ≤ length line) (n : end - at ≡ k) (past : at + suc k ≡ end + 1) where

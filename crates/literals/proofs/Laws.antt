@@ -92,7 +92,7 @@ module _ (s : Sheet) (ok : InRange s) (a sign x : ℕ) where
       let n = limit-small s ok f in
       let p : (x - 8) / 8 ≡ f = omega (arith, k) in
       let q : (x - 8) % 8 ≡ c = omega (arith, k) in
-      rw (p, q) ((k .0, k .1, l), refl)
+      rw (p, q) ((k, l), refl)
 
 -- The code of cell i of a side, by the byte that the side has there.
 module _ (s : Sheet) (ok : InRange s) (p : ℕ) (h : p < length (s .equations)) (k i : ℕ) (few : i ≤ 24) (a sign x : ℕ) (is : x ≡ getD (sideBytes (cells s (template s p k))) i 0) where

@@ -13,9 +13,9 @@ ghost use Rattle.model.specs.Range.{Admitted};
 ghost use Rattle.model.specs.Cells.{cells};
 ghost use Rattle.formula.specs.Clause.{K, S, T, yes, no, only, blank};
 ghost use Rattle.formula.specs.Clause as model;
-ghost use Rattle.formula.specs.Numbering.{VariableIn};
+ghost use Rattle.formula.specs.Numbering.{PlaceIn, VariableIn};
 ghost use Rattle.formula.specs.Numbering as variable;
-ghost use Rattle.formula.specs.Count.{PlaceIn, IdIn};
+ghost use Rattle.formula.specs.Count.{IdIn};
 ghost use Rattle.dimacs.specs.Codes.{termCode};
 ghost use Rattle.literals.specs.Name.{nameOf, lineOf, cellCode, nine};
 

@@ -46,7 +46,7 @@ row-number s p i here n e en =
 module _ (s : Sheet) (ok : InRange s) (p : ℕ) (hp : p < length (s .equations)) where
   place-few : (u : Cell) → CellIn s u → placeCode s u 0 0 ≤ mostCode
   place-few (letter b) h = omega arith
-  place-few (place f c) h = omega (arith, number-small s (K f c 0) (h .0, h .1, omega arith), variables-small s ok)
+  place-few (place f c) h = omega (arith, number-small s (K f c 0) (h, omega arith), variables-small s ok)
 
   -- codes are small
   cell-few : (k i : ℕ) → cellCode s (cells s (template s p k)) i 0 0 ≤ mostCode

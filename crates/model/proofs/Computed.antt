@@ -52,11 +52,11 @@ pub record Case : Type 0 where
   pub bytes : List ℕ
   pub first : ℕ
 
-abbrev pub _gives_ : List ℕ → ℕ → Case
+abbrev _gives_ : List ℕ → ℕ → Case
 _gives_ b n = record { bytes = b; first = n }
 
 infix 5 _gives_
-abbrev pub damaged : List Case
+abbrev damaged : List Case
 damaged =
     -- the header: each fault before the next
     (84 ∷ 80 ∷ 77 ∷ 0 ∷ 2 ∷ [] gives 1)

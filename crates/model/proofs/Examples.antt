@@ -25,7 +25,7 @@ pub record Example : Type 0 where
   pub bytes : List ℕ
   pub claim : Claim
 
-abbrev pub _shows_ : List ℕ → Claim → Example
+abbrev _shows_ : List ℕ → Claim → Example
 _shows_ b k = record { bytes = b; claim = k }
 
 infix 5 _shows_

@@ -156,7 +156,7 @@ module _ {A : Type 0} (t : A → Bool) where
       ap (λ z. when (t x) (x ∷ []) ++ z) (keep-append xs ys)
       ∙ sym (append-assoc (when (t x) (x ∷ [])) (keep t xs) (keep t ys))
 
-  pub keep-each : {B : Type 0} (xs : List B) (f : B → List A) → keep t (each xs f) ≡ each xs (λ x. keep t (f x))
+  keep-each : {B : Type 0} (xs : List B) (f : B → List A) → keep t (each xs f) ≡ each xs (λ x. keep t (f x))
   unfolding keep each
   keep-each [] f = refl
   keep-each (x ∷ xs) f = keep-append (f x) (each xs f) ∙ ap (λ z. keep t (f x) ++ z) (keep-each xs f)
@@ -282,7 +282,7 @@ module _ {A : Type 0} (p : A → Bool) (h : ℕ → A) where
       (λ t. or-right (p (h a)) (any-in (suc a) n i (lt-of-le-ne low (eqb-false a i t)) (omega arith) e))
 
 -- Totals.
-pub total-head : (n : ℕ) (h : ℕ → ℕ) → total (suc n) h ≡ h 0 + total n (λ i. h (suc i))
+total-head : (n : ℕ) (h : ℕ → ℕ) → total (suc n) h ≡ h 0 + total n (λ i. h (suc i))
 unfolding total
 total-head zero h = omega arith
 total-head (suc n) h = let before = total-head n h in omega arith

@@ -72,7 +72,7 @@ module _ (b : List ℕ) (y : Bytes b) (h : Accepted b) where
   pub equation-count-at : byte b 7 ≡ length (sheetOf b .equations)
   equation-count-at = holds-at (header (countsOf (sheetOf b))) 7 opens (omega arith)
 
-  pub constraint-count-at : byte b 8 ≡ length (sheetOf b .constraints)
+  constraint-count-at : byte b 8 ≡ length (sheetOf b .constraints)
   constraint-count-at = holds-at (header (countsOf (sheetOf b))) 8 opens (omega arith)
 
   -- all four
@@ -103,7 +103,7 @@ pub record EquationAt (b : List ℕ) (k : ℕ) (e : Equation) : Type 0 where
   pub holds-right : Holds b (k + 2 + length (e .left)) (map symbolByte (e .right))
   pub fits : k + 2 + length (e .left) + length (e .right) ≤ length b
 
-pub equation-at : (b : List ℕ) (k : ℕ) (e : Equation) → Holds b k (encodeEquation e) → EquationAt b k e
+equation-at : (b : List ℕ) (k : ℕ) (e : Equation) → Holds b k (encodeEquation e) → EquationAt b k e
 equation-at b k e h =
     let l = map symbolByte (e .left) in
     let r = map symbolByte (e .right) in

@@ -75,7 +75,7 @@ module _ (l v : ℕ) (small : l ≤ 128) where
   symbol-pass (field f) h =
       or-right (ltb (128 + f) l) (and-join (le-leb 128 (128 + f) (omega arith)) (lt-ltb (128 + f) (128 + v) (omega arith)))
 
-  pub symbols-pass : (t : List Symbol) → All (SymbolIn l v) t → allPass (templateByte l v) 0 (map symbolByte t) ≡ true
+  symbols-pass : (t : List Symbol) → All (SymbolIn l v) t → allPass (templateByte l v) 0 (map symbolByte t) ≡ true
   symbols-pass t h =
       all-pass (templateByte l v) (λ x. passes (templateByte l v) 0 x ≡ true) (λ b x e. e) 0 (map symbolByte t)
       (map-in _ symbolByte t (weaken (SymbolIn l v) _ t symbol-pass h))
@@ -87,7 +87,7 @@ module _ (l v : ℕ) (small : l ≤ 128) where
   pub symbols-again : (t : List Symbol) → All (SymbolIn l v) t → map symbolOf (map symbolByte t) ≡ t
   symbols-again t h = map-back (SymbolIn l v) symbolByte symbolOf t symbol-again h
 
-pub symbols-back : (xs : List ℕ) → map symbolByte (map symbolOf xs) ≡ xs
+symbols-back : (xs : List ℕ) → map symbolByte (map symbolOf xs) ≡ xs
 symbols-back [] = refl
 symbols-back (x ∷ xs) = rw (symbol-back x, symbols-back xs)
 

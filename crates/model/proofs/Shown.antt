@@ -17,7 +17,7 @@ use Rattle.model.proofs.Solvable.{every-legal}
 use Rattle.model.proofs.Examples.{Claim, clashes, only, doesNot, apart, spells, Example, listed, legalTexts, sameTexts, legalIn, clashesIn, test, passesTest, tests-pass}
 
 -- What each claim says.
-abbrev pub Says : Sheet → Claim → Type 0
+abbrev Says : Sheet → Claim → Type 0
 Says s (clashes g) = Solves s g
 Says s (only g) = Solves s g × ((h : Substitution) → Solves s h → h ≡ g)
 Says s (doesNot g) = Legal s g × (Solves s g → ⊥)

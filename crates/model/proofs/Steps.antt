@@ -11,7 +11,7 @@ use Rattle.model.specs.Sheet.{Step, got, fault, _then_, must, times}
 pub no-fault : {A P : Type 0} {n : ℕ} {a : A} {xs : List ℕ} → fault n ≡ got a xs → P
 no-fault e = let z : _≡_ {A = ℕ} 0 1 = cc in absurd (omega arith)
 
-pub got-value : {A : Type 0} {a b : A} {xs ys : List ℕ} → got a xs ≡ got b ys → a ≡ b
+got-value : {A : Type 0} {a b : A} {xs ys : List ℕ} → got a xs ≡ got b ys → a ≡ b
 got-value e = cc
 
 pub got-rest : {A : Type 0} {a b : A} {xs ys : List ℕ} → got a xs ≡ got b ys → xs ≡ ys

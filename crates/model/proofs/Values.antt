@@ -30,7 +30,7 @@ unfolding unblank
 unblank-append l [] ys = refl
 unblank-append l (x ∷ xs) ys = ap (λ z. pick (eqb x l) [] (x ∷ []) ++ z) (unblank-append l xs ys) ∙ sym (append-assoc (pick (eqb x l) [] (x ∷ [])) (unblank l xs) (unblank l ys))
 
-pub values-append : (l : ℕ) (g : Substitution) (us vs : List Cell) → values l g (us ++ vs) ≡ values l g us ++ values l g vs
+values-append : (l : ℕ) (g : Substitution) (us vs : List Cell) → values l g (us ++ vs) ≡ values l g us ++ values l g vs
 values-append l g us vs = ap (unblank l) (map-append (value l g) us vs) ∙ unblank-append l (map (value l g) us) (map (value l g) vs)
 
 -- The places of a field, from c on, spell its text from there on.

@@ -23,11 +23,11 @@ pub equal-same-word : (s : Sheet) (u w : List ℕ) → u ≡ w → SameWord s u 
 unfolding SameWord
 equal-same-word s u w h = h
 
-pub same-word-out : (s : Sheet) (u w : List ℕ) → sameWord s u w ≡ true → SameWord s u w
+same-word-out : (s : Sheet) (u w : List ℕ) → sameWord s u w ≡ true → SameWord s u w
 unfolding sameWord SameWord
 same-word-out s u w h = same-equal u w h
 
-pub same-word-in : (s : Sheet) (u w : List ℕ) → SameWord s u w → sameWord s u w ≡ true
+same-word-in : (s : Sheet) (u w : List ℕ) → SameWord s u w → sameWord s u w ≡ true
 unfolding sameWord SameWord
 same-word-in s u w h = equal-same u w h
 

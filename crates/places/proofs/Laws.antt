@@ -54,7 +54,7 @@ number-next s f c a = omega arith
 module _ (s : Sheet) (marks : List ℕ) (f c first a : ℕ) (e : first ≡ number s (K f c 0)) where
   pub in-marks : length marks ≡ suc (length (variables s)) → f < fields s → c < limit s f → a ≤ blank s → first + a < length marks
   in-marks l h k m =
-      let n = number-small s (K f c a) (h, k, m) in
+      let n = number-small s (K f c a) ((h, k), m) in
       let v = variable-count s in
       let q = number-next s f c a in
       omega arith
@@ -76,7 +76,7 @@ pub record Counted (p : ℕ → Bool) (l a count least : ℕ) : Type 0 where
   pub few : count + a ≤ suc l
   pub small : least ≤ l
   pub counts : count ≡ length (onward p (suc l) a)
-  pub is-least : least ≡ getD (onward p (suc l) a) 0 l
+  is-least : least ≡ getD (onward p (suc l) a) 0 l
 
 module _ (p : ℕ → Bool) (l : ℕ) where
   pub counted-start : Counted p l (l + 1) 0 l

@@ -9,7 +9,7 @@ use Rattle.model.specs.Sheet.{Sheet, got, rest, Accepted, sheetOf, equation, le
 use Rattle.model.specs.Word.{text, letterBytes, spell}
 use Rattle.formula.specs.Dimacs.{decimal}
 use Rattle.model.specs.Filling.{filling}
-use Rattle.calls.specs.Report.{refusedLine, line, clashLine, fieldName, fieldLine, pairName, pairLine, report, mostReport}
+use Rattle.calls.specs.Report.{refusedLine, labelledLine, clashLine, fieldName, fieldLine, pairName, pairLine, report, mostReport}
 use Rattle.calls.specs.Calls.{finished, checking}
 use Rattle.model.proofs.Keeping.{each-short}
 use Rattle.formula.proofs.Figures.{decimal-short-three}
@@ -20,7 +20,7 @@ use Rattle.fields.specs.Memory.{meaning, Held}
 use Rattle.judge.proofs.Meaning.{short-at}
 
 -- the size of a line
-pub line-size : (s : Sheet) (name : List ℕ) (n : ℕ) (t : List ℕ) → length (line name n (letterBytes s t)) ≡ length name + length t + 3
+pub line-size : (s : Sheet) (name : List ℕ) (n : ℕ) (t : List ℕ) → length (labelledLine name n (letterBytes s t)) ≡ length name + length t + 3
 line-size s name n t =
     let a = length-append name (((48 + n) ∷ 61 ∷ []) ++ (letterBytes s t ++ (10 ∷ []))) in
     let b = length-append (letterBytes s t) (10 ∷ []) in
@@ -28,7 +28,7 @@ line-size s name n t =
     omega arith
 
 -- room for a line, by the word that is written as its text
-pub line-room : (s : Sheet) (name : List ℕ) (n : ℕ) {w t : List ℕ} → w ≡ t → (at size : ℕ) → at + length (line name n (letterBytes s t)) ≤ size
+pub line-room : (s : Sheet) (name : List ℕ) (n : ℕ) {w t : List ℕ} → w ≡ t → (at size : ℕ) → at + length (labelledLine name n (letterBytes s t)) ≤ size
     → at + length name + length w + 3 ≤ size
 line-room s name n {t = t} e at size room = let same = ap length e in omega (arith, line-size s name n t)
 

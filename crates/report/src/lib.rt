@@ -23,7 +23,7 @@ pub const MOST_REPORT: usize = 236;
 // past it.
 fn line(buf: &mut [u8], at: usize, name: &[u8], n: u8, sheet: &[u8], word: &[u8]) -> usize
     requires { ⌜ Accepted (now sheet) × All (λ a. a < length (sheetOf (now sheet) .letters)) (now word) × (n < 10) × (at + length (now name) + length (now word) + 3 ≤ length (now buf)) ⌝ }
-    ensures { λ r. ⌜ Puts (now (buf .entry)) at (model.line (now (name .entry)) n (letterBytes (sheetOf (now (sheet .entry))) (now (word .entry)))) (now (buf .exit)) r ⌝ }
+    ensures { λ r. ⌜ Puts (now (buf .entry)) at (model.labelledLine (now (name .entry)) n (letterBytes (sheetOf (now (sheet .entry))) (now (word .entry)))) (now (buf .exit)) r ⌝ }
 {
     let a = words::put(buf, at, name);
     let b = words::put(buf, a, &[b'0' + n, b'=']);

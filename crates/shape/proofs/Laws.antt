@@ -74,7 +74,7 @@ module _ (b : List ℕ) (ok : Admitted b) (p : ℕ) (h : p < length (sheetOf b .
   pub symbols-are : map symbolOf t ≡ template (sheetOf b) p side
   symbols-are = ap (map symbolOf) is ∙ template-again (sheetOf b) (ok .1) p h side
 
-  pub cells-fit : length (cells (sheetOf b) (map symbolOf t)) ≤ 24
+  cells-fit : length (cells (sheetOf b) (map symbolOf t)) ≤ 24
   cells-fit =
       let n = ap (λ u. length (cells (sheetOf b) u)) symbols-are ∙ cells-width (sheetOf b) (template (sheetOf b) p side) in
       omega (arith, template-in (sheetOf b) (ok .1) p h side .wide)

@@ -15,8 +15,9 @@ use libc::STDOUT_FILENO;
 use report::MOST_REPORT;
 use scan::wide;
 use substitution::Checking;
-use substitution::Refusal;
 use substitution::Spelling;
+use vectors::next;
+use vectors::show_refused;
 ghost use mathlib.Core.Path.{_≡_};
 ghost use mathlib.Core.List.{[], _∷_};
 ghost use Prim.Native.Nat.{_+_, _≤_};
@@ -32,31 +33,20 @@ const ASKED: usize = 17;
 // The longest buffer that is lent. Document 01's texts have at most 24 letters.
 const LENT: usize = 32;
 
-// Shows each line of standard input, of which the first 65,536 bytes are read.
+// Shows each vector of standard input, of which the first 65,536 bytes are read.
 fn main() {
     let mut buf = io::large_buffer();
     let n = io::read_full(STDIN_FILENO, &mut buf);
-    show_lines(&buf[..n]);
+    show_vectors(&buf[..n]);
 }
 
-// Shows each line of a text.
-fn show_lines(text: &[u8]) {
-    let mut at = 0;
+// Shows each vector of a text.
+fn show_vectors(text: &[u8]) {
+    let mut at = next(text, 0);
     while at < text.len() {
         let end = find(text, at, b'\n');
-        show_line(&text[at..end]);
-        at = end + 1;
-    }
-}
-
-// Prints a heading as it is, and for a vector its name and the answer.
-fn show_line(text: &[u8]) {
-    let colon = find(text, 0, b':');
-    io::write_all(STDOUT_FILENO, &text[..colon]);
-    if colon < text.len() {
-        show_vector(&text[colon..]);
-    } else {
-        io::write_all(STDOUT_FILENO, b"\n");
+        show_vector(&text[at..end]);
+        at = next(text, end + 1);
     }
 }
 
@@ -87,7 +77,7 @@ fn show_check(sheet: &[u8], filling: &[u8]) {
             io::write_all(STDOUT_FILENO, b": no clash\n");
         }
         Checking::Refused(refusal) => {
-            show_refusal(refusal);
+            show_refused(substitution::number(refusal));
             io::write_all(STDOUT_FILENO, b"\n");
         }
     }
@@ -139,18 +129,11 @@ fn show_spelling(sheet: &[u8], equation: usize, side: usize, filling: &[u8], buf
             io::write_all(STDOUT_FILENO, b": spelled ");
             io::print_decimal(STDOUT_FILENO, n as u64);
         }
-        Spelling::Refused(refusal) => show_refusal(refusal),
+        Spelling::Refused(refusal) => show_refused(substitution::number(refusal)),
     }
     io::write_all(STDOUT_FILENO, b" |");
     io::write_all(STDOUT_FILENO, buf);
     io::write_all(STDOUT_FILENO, b"|\n");
-}
-
-// Prints that a call is refused, and document 01's number of the refusal.
-fn show_refusal(refusal: Refusal) {
-    io::write_all(STDOUT_FILENO, b": refused ");
-    let number = substitution::number(refusal);
-    io::print_decimal(STDOUT_FILENO, number as u64);
 }
 
 // The number of eight bytes, the high byte first.

@@ -6,48 +6,43 @@ use hex::decode;
 use hex::find;
 use libc::STDIN_FILENO;
 use libc::STDOUT_FILENO;
+use vectors::next;
+use vectors::show_refused;
 
 // Room for a sheet's bytes. Document 01 accepts none of more than 159.
 const ROOM: usize = 256;
 
-// Shows each line of standard input, of which the first 65,536 bytes are read.
+// Shows each vector of standard input, of which the first 65,536 bytes are read.
 fn main() {
     let mut buf = io::large_buffer();
     let n = io::read_full(STDIN_FILENO, &mut buf);
-    show_lines(&buf[..n]);
+    show_vectors(&buf[..n]);
 }
 
-// Shows each line of a text.
-fn show_lines(text: &[u8]) {
-    let mut at = 0;
+// Shows each vector of a text.
+fn show_vectors(text: &[u8]) {
+    let mut at = next(text, 0);
     while at < text.len() {
         let end = find(text, at, b'\n');
-        show_line(&text[at..end]);
-        at = end + 1;
+        show_vector(&text[at..end]);
+        at = next(text, end + 1);
     }
 }
 
-// Prints a heading as it is, and for a sheet its name and what reading it answers.
-fn show_line(text: &[u8]) {
-    let colon = find(text, 0, b':');
-    if colon == text.len() {
-        io::write_all(STDOUT_FILENO, text);
-        io::write_all(STDOUT_FILENO, b"\n");
-        return;
-    }
+// Prints what reading a sheet answers.
+fn show_vector(text: &[u8]) {
     let mut sheet = [0u8; ROOM];
     // The colon is no digit, and is passed over.
-    let n = decode(&text[colon..], &mut sheet);
-    show(&text[..colon], &sheet[..n]);
+    let n = decode(text, &mut sheet);
+    show(&sheet[..n]);
 }
 
-// Prints a sheet's name and what reading it answers, as one line.
-fn show(name: &[u8], sheet: &[u8]) {
-    io::write_all(STDOUT_FILENO, name);
+// Prints what reading a sheet answers, and the line's end.
+fn show(sheet: &[u8]) {
     let reading = sheet::read(sheet);
     match reading {
         sheet::Reading::Accepted(counts) => show_counts(counts),
-        sheet::Reading::Refused(refusal) => show_refusal(refusal),
+        sheet::Reading::Refused(refusal) => show_refused(sheet::number(refusal)),
     }
     io::write_all(STDOUT_FILENO, b"\n");
 }
@@ -63,13 +58,6 @@ fn show_counts(counts: parts::Counts) {
     show_number(fields);
     show_number(equations);
     show_number(constraints);
-}
-
-// Prints that a sheet is refused, and document 01's number of the refusal.
-fn show_refusal(refusal: sheet::Refusal) {
-    io::write_all(STDOUT_FILENO, b": refused");
-    let number = sheet::number(refusal);
-    show_number(number);
 }
 
 // Prints a space and a number.

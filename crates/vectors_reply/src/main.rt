@@ -4,7 +4,6 @@
 // length of the lent buffer, one byte, both in hexadecimal, a second semicolon, and all that follows
 // it is the text, written as `unescape` reads it. A line with no colon is a heading and is printed as
 // it is. The file stdout has document 01's answers.
-use decoding::Refusal;
 use decoding::Reply;
 use hex::after;
 use hex::decode;
@@ -12,6 +11,8 @@ use hex::find;
 use hex::signed;
 use libc::STDIN_FILENO;
 use libc::STDOUT_FILENO;
+use vectors::next;
+use vectors::show_refused;
 ghost use mathlib.Core.Path.{_≡_};
 ghost use Prim.Native.Nat.{_≤_};
 ghost use lib.ListN.{length, take};
@@ -29,31 +30,20 @@ const FILL: usize = 65515;
 // The longest buffer that is lent. Document 01's fillings have at most 54 bytes.
 const LENT: usize = 64;
 
-// Shows each line of standard input, of which the first 65,536 bytes are read.
+// Shows each vector of standard input, of which the first 65,536 bytes are read.
 fn main() {
     let mut buf = io::large_buffer();
     let n = io::read_full(STDIN_FILENO, &mut buf);
-    show_lines(&buf[..n]);
+    show_vectors(&buf[..n]);
 }
 
-// Shows each line of a text.
-fn show_lines(text: &[u8]) {
-    let mut at = 0;
+// Shows each vector of a text.
+fn show_vectors(text: &[u8]) {
+    let mut at = next(text, 0);
     while at < text.len() {
         let end = find(text, at, b'\n');
-        show_line(&text[at..end]);
-        at = end + 1;
-    }
-}
-
-// Prints a heading as it is, and for a vector its name and the answer.
-fn show_line(text: &[u8]) {
-    let colon = find(text, 0, b':');
-    io::write_all(STDOUT_FILENO, &text[..colon]);
-    if colon < text.len() {
-        show_vector(&text[colon..]);
-    } else {
-        io::write_all(STDOUT_FILENO, b"\n");
+        show_vector(&text[at..end]);
+        at = next(text, end + 1);
     }
 }
 
@@ -158,18 +148,11 @@ fn show_reply(sheet: &[u8], text: &[u8], buf: &mut [u8]) {
         Reply::Accepted => {
             io::write_all(STDOUT_FILENO, b": accepted");
         }
-        Reply::Refused(refusal) => show_refusal(refusal),
+        Reply::Refused(refusal) => show_refused(decoding::number(refusal)),
     }
     io::write_all(STDOUT_FILENO, b" |");
     show_bytes(buf);
     io::write_all(STDOUT_FILENO, b"|\n");
-}
-
-// Prints that a reply is refused, and document 01's number of the refusal.
-fn show_refusal(refusal: Refusal) {
-    io::write_all(STDOUT_FILENO, b": refused ");
-    let number = decoding::number(refusal);
-    io::print_decimal(STDOUT_FILENO, number as u64);
 }
 
 // Prints each byte as two hexadecimal digits.

@@ -17,7 +17,7 @@ letters-requires c κs = c .before .pre .0
 place-code-requires : tie.Need-place-code-requires
 place-code-requires c κs =
     let at-start = c .before .before in
-    (at-start .pre .0, (at-start .pre .1 .0 .0, at-start .pre .1 .0 .1, omega (arith, c .letters .ensures)), omega arith)
+    (at-start .pre .0, (at-start .pre .1 .0, omega (arith, c .letters .ensures)), omega arith)
 
 add-place-code : tie.Need-add-place-code
 add-place-code c =
@@ -27,7 +27,7 @@ add-place-code c =
 place-code-requires-2 : tie.Need-place-code-requires-2
 place-code-requires-2 c κs =
     let at-start = c .before .before .before in
-    (at-start .pre .0, (at-start .pre .1 .0 .0, omega (arith, at-start .pre .1 .1), omega (arith, c .before .letters .ensures)), omega arith)
+    (at-start .pre .0, ((at-start .pre .1 .0 .0, omega (arith, at-start .pre .1 .1)), omega (arith, c .before .letters .ensures)), omega arith)
 
 returns : tie.Need-returns
 unfolding nine terms

@@ -27,7 +27,7 @@ place-code-requires : tie.Need-place-code-requires
 place-code-requires c κs =
     let at-start = c .before .before .before .before in
     let at-limit = c .before .before .limit in
-    (at-start .pre .0, (at-start .pre .1, omega (arith, at-limit .ensures .0), omega (arith, c .letters .ensures)), omega arith)
+    (at-start .pre .0, ((at-start .pre .1, omega (arith, at-limit .ensures .0)), omega (arith, c .letters .ensures)), omega arith)
 
 returns-2 : tie.Need-returns-2
 returns-2 c =

@@ -8,12 +8,12 @@ use Rattle.literals.proofs.not_both.Statement.{statement}
 use Rattle.literals.proofs.not_both.Tie as tie
 
 place-code-requires : tie.Need-place-code-requires
-place-code-requires c κs = (c .before .pre .0, (c .before .pre .1 .0 .0, c .before .pre .1 .0 .1, omega (arith, c .before .pre .1)), omega arith)
+place-code-requires c κs = (c .before .pre .0, (c .before .pre .1 .0, omega (arith, c .before .pre .1)), omega arith)
 
 place-code-requires-2 : tie.Need-place-code-requires-2
 place-code-requires-2 c κs =
     let at-start = c .before .before in
-    (at-start .pre .0, (at-start .pre .1 .0 .0, at-start .pre .1 .0 .1, at-start .pre .1 .2), omega arith)
+    (at-start .pre .0, (at-start .pre .1 .0, at-start .pre .1 .2), omega arith)
 
 returns : tie.Need-returns
 unfolding nine terms

@@ -24,7 +24,7 @@ letters-requires c κs =
 place-code-requires : tie.Need-place-code-requires
 place-code-requires c κs =
     let at-start = c .before .before .before in
-    (at-start .pre .0, (at-start .pre .1, omega (arith, at-start .pre .2), omega (arith, c .letters .ensures)), omega arith)
+    (at-start .pre .0, ((at-start .pre .1, omega (arith, at-start .pre .2)), omega (arith, c .letters .ensures)), omega arith)
 
 returns-2 : tie.Need-returns-2
 returns-2 c =

@@ -21,7 +21,7 @@ abbrev μ-loop : tie.MeasureT-loop
 μ-loop sheet f c first letters codes₀ a₀ codes a = letters + 1 - a
 
 place-number-requires : tie.Need-place-number-requires Inv-loop μ-loop
-place-number-requires c κs = (c .before .pre .0, (c .before .pre .1 .0, c .before .pre .1 .1, omega arith))
+place-number-requires c κs = (c .before .pre .0, (c .before .pre .1, omega arith))
 
 letters-requires : tie.Need-letters-requires Inv-loop μ-loop
 letters-requires c κs =

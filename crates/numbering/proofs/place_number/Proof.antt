@@ -32,7 +32,7 @@ product c =
     let at-start = c .before .before .before in
     let s = sheetOf (at-start .args .sheet .now) in
     let n : c .letters .result + 1 ≤ 9 = omega (arith, c .letters .ensures, letters-few s (at-start .pre .0 .1)) in
-    let m : at-start .args .c ≤ 8 = omega (arith, at-start .pre .1 .1, limit-small s (at-start .pre .0 .1) (at-start .args .f)) in
+    let m : at-start .args .c ≤ 8 = omega (arith, at-start .pre .1 .0 .1, limit-small s (at-start .pre .0 .1) (at-start .args .f)) in
     let k : at-start .args .c * (c .letters .result + 1) ≤ 8 * 9 = mul-le-mul m n in
     omega arith
 
@@ -45,7 +45,7 @@ add-result-3 c = omega (arith, product c, c .before .parts-before .ensures .1)
 add-result-4 : tie.Need-add-result-4
 add-result-4 c =
     let at-start = c .before .before .before in
-    omega (arith, product c, c .before .parts-before .ensures .1, at-start .pre .1 .2, letters-few (sheetOf (at-start .args .sheet .now)) (at-start .pre .0 .1))
+    omega (arith, product c, c .before .parts-before .ensures .1, at-start .pre .1 .1, letters-few (sheetOf (at-start .args .sheet .now)) (at-start .pre .0 .1))
 
 returns : tie.Need-returns
 unfolding number

@@ -21,7 +21,7 @@ letters-requires c κs =
 place-number-requires : tie.Need-place-number-requires Inv-loop μ-loop
 place-number-requires c κs =
     let at-start = c .before .before .before in
-    (at-start .pre .0 .0, (at-start .pre .1, at-start .pre .2, omega arith))
+    (at-start .pre .0 .0, ((at-start .pre .1, at-start .pre .2), omega arith))
 
 add-a : tie.Need-add-a Inv-loop μ-loop
 add-a c =

@@ -30,7 +30,7 @@ place-number-requires c κs =
     let at-if1 = c .before .if1 in
     let at-limit = c .before .before .limit in
     let at-letters = c .letters in
-    (at-start .pre .0, (at-start .pre .1, omega (arith, at-if1 .left, at-limit .ensures .0), omega (arith, at-letters .ensures)))
+    (at-start .pre .0, ((at-start .pre .1, omega (arith, at-if1 .left, at-limit .ensures .0)), omega (arith, at-letters .ensures)))
 
 mul-result : tie.Need-mul-result
 mul-result c =

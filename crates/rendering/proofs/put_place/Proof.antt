@@ -25,7 +25,7 @@ letters-requires c κs = c .before .before .pre .0
 place-number-requires : tie.Need-place-number-requires
 place-number-requires c κs =
     let start = c .before .before .before in
-    (start .pre .0, (start .pre .1 .0, start .pre .1 .1, omega arith))
+    (start .pre .0, (start .pre .1, omega arith))
 
 mul-first : tie.Need-mul-first
 mul-first c = omega (arith, c .place-number .ensures .1)

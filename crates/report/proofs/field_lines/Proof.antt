@@ -9,7 +9,7 @@ use borrow.Author.Needs.{needs}
 use Rattle.model.specs.Lists.{each, upTo, All, Puts}
 use Rattle.model.specs.Sheet.{Counts, sheetOf}
 use Rattle.model.specs.Word.{text, letterBytes}
-use Rattle.calls.specs.Report.{line, fieldName, fieldLine}
+use Rattle.calls.specs.Report.{labelledLine, fieldName, fieldLine}
 use Rattle.model.proofs.Seams.{Written}
 use Rattle.model.proofs.Pieces.{loop-none, loop-room, loop-next, loop-done}
 use Rattle.fields.specs.declared.Field.{Field}
@@ -127,7 +127,7 @@ loop-again c =
     let start = start-of in-loop in
     let at-loop = in-loop .before .loop in
     let at-line = c .before .before .line in
-    let piece = ap (λ w. line fieldName (at-loop .f) (letterBytes (sheetOf (start .args .sheet .now)) w)) (the-word after-wide2) in
+    let piece = ap (λ w. labelledLine fieldName (at-loop .f) (letterBytes (sheetOf (start .args .sheet .now)) w)) (the-word after-wide2) in
     (omega arith, loop-next (lines start) (count start) (start .pre .1) (at-loop .inv .1) (is-field in-loop) (at-line .last .0) (at-line .result) (subst (λ q. Puts (at-loop .buf) (at-loop .past) q (at-line .last .0) (at-line .result)) piece (at-line .ensures)) (at-line .kept .0))
 
 same-length : tie.Need-same-length Inv-loop μ-loop

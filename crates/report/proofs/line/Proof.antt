@@ -22,7 +22,7 @@ module _ (start : tie.Start) where
   digit = (48 + start .args .n) ∷ 61 ∷ []
 
   abbrev Still : List ℕ → List (List ℕ) → List ℕ → ℕ → Type 0
-  Still = Writing (start .args .buf .now) (start .args .at) (model.line (start .args .name .now) (start .args .n) text)
+  Still = Writing (start .args .buf .now) (start .args .at) (model.labelledLine (start .args .name .now) (start .args .n) text)
 
   begun : Still (start .args .name .now) (digit ∷ text ∷ (10 ∷ []) ∷ []) (start .args .buf .now) (start .args .at)
   unfolding joined

@@ -8,7 +8,7 @@ use borrow.Author.Needs.{needs}
 use Rattle.model.specs.Lists.{each, upTo, All, Puts}
 use Rattle.model.specs.Sheet.{Counts, sheetOf, equation, symbolOf}
 use Rattle.model.specs.Word.{spell, letterBytes}
-use Rattle.calls.specs.Report.{line, pairName, pairLine}
+use Rattle.calls.specs.Report.{labelledLine, pairName, pairLine}
 use Rattle.model.proofs.Seams.{Written, front-is, front-fits, front-length}
 use Rattle.model.proofs.Pieces.{loop-none, loop-room, loop-next, loop-done}
 use Rattle.model.proofs.Templates.{template-in}
@@ -130,7 +130,7 @@ loop-again c =
     let start = start-of in-loop in
     let at-loop = in-loop .before .loop in
     let at-line = c .before .before .line in
-    let piece = ap (λ w. line pairName (at-loop .p) (letterBytes (sheetOf (start .args .sheet .now)) w)) (the-word after-word2) in
+    let piece = ap (λ w. labelledLine pairName (at-loop .p) (letterBytes (sheetOf (start .args .sheet .now)) w)) (the-word after-word2) in
     (omega arith, loop-next (lines start) (count start) (start .pre .1) (at-loop .inv .1) (is-pair in-loop) (at-line .last .0) (at-line .result) (subst (λ q. Puts (at-loop .buf) (at-loop .past) q (at-line .last .0) (at-line .result)) piece (at-line .ensures)) (at-line .kept .0))
 
 same-length : tie.Need-same-length Inv-loop μ-loop

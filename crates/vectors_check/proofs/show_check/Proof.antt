@@ -28,8 +28,11 @@ write-all-requires c κs = search needs
 enum-known-checking : tie.Need-enum-known-checking
 enum-known-checking c = search needs
 
-show-refusal-requires : tie.Need-show-refusal-requires
-show-refusal-requires c κs = search needs
+number-requires : tie.Need-number-requires
+number-requires c κs = search needs
+
+show-refused-requires : tie.Need-show-refused-requires
+show-refused-requires c κs = search needs
 
 slice-aggregate-write-all-2 : tie.Need-slice-aggregate-write-all-2
 slice-aggregate-write-all-2 c = search needs
@@ -57,7 +60,8 @@ show-check-spec =
     slice-aggregate-write-all
     write-all-requires
     enum-known-checking
-    show-refusal-requires
+    number-requires
+    show-refused-requires
     slice-aggregate-write-all-2
     write-all-requires-2
     returns

@@ -1,0 +1,3 @@
+pub mod Negated
+pub mod Refused
+pub mod Told

@@ -1,0 +1,36 @@
+-- What a number that is returned tells of an answer, whatever the call: 0 where it has to be a finished answer, a length where values are written.
+-- Refusals count from 1, so that minus one of them is never 0 or more. Assumes nothing.
+use mathlib.Core.Path.{_≡_, refl}
+use mathlib.Core.List.{List}
+use Prim.Native.Nat.{ℕ, zero, suc, _≤_}
+use native.Mathlib.Omega.{arith}
+use lib.IntN.{pos, negℤ}
+use Rattle.calls.specs.Calls.{Answer, refused, finished, sized, unnumbered}
+use Rattle.calls.proofs.Operations.{Sized}
+use Rattle.c_answer.specs.Returned.{returned, returnedNumber}
+
+pub record Finished (a : Answer) : Type 0 where
+  pub values : List ℕ
+  pub is : a ≡ finished values
+
+pub zero-finished : (a : Answer) → ((n : ℕ) → a ≡ refused n → 1 ≤ n) → returned a ≡ pos 0 → Finished a
+zero-finished (finished vs) h e = record { values = vs; is = refl }
+zero-finished (refused zero) h e = absurd (let k = h 0 refl in omega arith)
+zero-finished (refused (suc n)) h e = let z : _≡_ {A = ℕ} 0 1 = cc in absurd (omega arith)
+
+pub negative : {P : Type 0} {v : ℕ} (n : ℕ) → 1 ≤ n → negℤ (pos n) ≡ pos v → P
+negative zero h e = absurd (omega arith)
+negative (suc n) h e = let z : _≡_ {A = ℕ} 0 1 = cc in absurd (omega arith)
+
+pub pos-equal : {a c : ℕ} → pos a ≡ pos c → a ≡ c
+pos-equal e = cc
+
+-- a number of 0 or more is the length of the values that were written
+pub length-told : (a : Answer) (n : ℕ) → ((k : ℕ) → a ≡ refused k → 1 ≤ k) → returnedNumber (sized a) ≡ pos n → Sized a n
+length-told (refused k) n h e = negative k (h k refl) e
+length-told (finished values) n h e = record { text = values; is = refl; count = pos-equal e }
+
+-- a call that answers no number returns the same
+pub same-returned : (a : Answer) → returned (unnumbered a) ≡ returned a
+same-returned (refused n) = refl
+same-returned (finished values) = refl

@@ -1,3 +1,0 @@
-mod Negated
-pub mod Refused
-pub mod Told
