@@ -4,28 +4,17 @@ use mathlib.Core.List.{List}
 use Prim.Native.Nat.{ℕ, suc, _+_, _-_, _*_, _<_, _≤_}
 use native.Mathlib.Omega.{arith}
 use lib.ListN.{length, getD}
-use borrow.Author.Tests.{lt-ltb, le-ltb, ne-eqb}
 use Rattle.model.specs.Lists.{total}
 use Rattle.model.specs.Sheet.{Sheet, limit, constraint}
 use Rattle.model.specs.Range.{InRange}
 use Rattle.formula.specs.Clause.{blank, fields, leftCells, rightCells, spread, ids}
-use Rattle.formula.specs.Count.{used, atLetter, atField, locationCount, notBothCount, placeCount, fieldCount, locationSize, rowCount, equationCount, stepCount, within, constraintCount, kClauses, sClauses, clauseCount}
+use Rattle.formula.specs.Count.{locationCount, notBothCount, placeCount, fieldCount, locationSize, rowCount, equationCount, stepCount, within, constraintCount, kClauses, sClauses, clauseCount}
 use Rattle.model.proofs.Keeping.{total-none, total-same}
 use Rattle.formula.proofs.Small.{cells-small}
 use Rattle.formula.proofs.Totals.{field-total, clause-count}
 use Rattle.shape.specs.Bytes.{sideBytes, sideOf}
 use Rattle.shape.proofs.Sides.{side-at}
 use Rattle.model.proofs.Templates.{well-formed}
-
--- the sides that a byte stands for
-pub says-used : (x : ℕ) → x ≡ 255 → sideOf x ≡ used
-says-used x e = rw e
-
-pub says-letter : (x : ℕ) → x < 8 → sideOf x ≡ atLetter x
-says-letter x h = rw (lt-ltb x 8 h)
-
-pub says-field : (x : ℕ) → 8 ≤ x → (x ≡ 255 → ⊥) → sideOf x ≡ atField
-says-field x h n = rw (le-ltb x 8 h, ne-eqb x 255 n)
 
 -- the clauses of a field with no place, and with some
 module _ (s : Sheet) (f : ℕ) (n : ℕ) (is : n ≡ limit s f) where

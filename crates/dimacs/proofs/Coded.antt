@@ -53,3 +53,10 @@ unfolding codesLine
 padded-line cs zs h =
     ap (λ z. z ++ (48 ∷ 10 ∷ []))
     (each-append codeBytes cs zs ∙ ap (λ z. each cs codeBytes ++ z) (none-bytes zs h) ∙ append-nil (each cs codeBytes))
+
+-- codes that agree
+pub same-three : {a b c a′ b′ c′ : ℕ} → a ≡ a′ → b ≡ b′ → c ≡ c′ → codesLine (a ∷ b ∷ c ∷ []) ≡ codesLine (a′ ∷ b′ ∷ c′ ∷ [])
+same-three p q r = rw (p, q, r)
+
+pub same-four : {a b c d a′ b′ c′ d′ : ℕ} → a ≡ a′ → b ≡ b′ → c ≡ c′ → d ≡ d′ → codesLine (a ∷ b ∷ c ∷ d ∷ []) ≡ codesLine (a′ ∷ b′ ∷ c′ ∷ d′ ∷ [])
+same-four p q r t = rw (p, q, r, t)

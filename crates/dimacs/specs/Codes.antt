@@ -26,3 +26,10 @@ codeBytes code = pick (eqb code 0) [] (sign code ++ (decimal (code / 2) ++ (32 �
 
 unfoldable pub codesLine : List ℕ → List ℕ
 codesLine codes = each codes codeBytes ++ (48 ∷ 10 ∷ [])
+
+-- The greatest code of a variable, of which there are at most 5,648; and a bound for the codes that follow from one by adding.
+abbrev pub mostCode : ℕ
+mostCode = 2 * 5648
+
+abbrev pub largeCode : ℕ
+largeCode = 20000

@@ -25,9 +25,9 @@ use Rattle.formula.proofs.Totals.{place-before, field-total}
 use Rattle.formula.proofs.Finding.{some-at, not-both-at, tail-at, start-at, location-at, zero-at, add-at, bound-at}
 use Rattle.scan.proofs.Machine.{small-fits, small-back}
 use Rattle.shape.specs.Bytes.{sideBytes, sideOf}
-use Rattle.shape.proofs.Sides.{side-at}
+use Rattle.shape.proofs.Sides.{side-at, says-field}
 use Rattle.numbering.proofs.Laws.{sum-fits, sum-back}
-use Rattle.counting.proofs.Laws.{says-field, field-none, constraint-known}
+use Rattle.counting.proofs.Laws.{field-none, constraint-known}
 use Rattle.model.proofs.Templates.{well-formed}
 
 -- A search for number n through parts of sizes h: before the first part, past part i, and past the last part, where no number is.

@@ -1,14 +1,11 @@
 -- Clauses by name as the code has them, their lines, and their literals as nine codes.
 use mathlib.Core.List.{List, _++_, map}
-use Prim.Native.Nat.{ℕ, _+_, _-_, _*_}
-use lib.Dec.{ltb}
+use Prim.Native.Nat.{ℕ, _-_}
 use lib.ListN.{length, replicate}
-use Rattle.model.specs.Lists.{pick}
 use Rattle.model.specs.Sheet.{Sheet}
-use Rattle.model.specs.Cells.{Cell, letter, place}
 use Rattle.formula.specs.Clause as model
-use Rattle.formula.specs.Clause.{K, cell, terms}
-use Rattle.formula.specs.Numbering.{number, clause}
+use Rattle.formula.specs.Clause.{terms}
+use Rattle.formula.specs.Numbering.{clause}
 use Rattle.formula.specs.Dimacs.{clauseLine}
 use Rattle.dimacs.specs.Codes.{termCode}
 use Rattle.literals.specs.declared.ClauseId.{ClauseId}
@@ -32,14 +29,6 @@ nameOf (Bound r n) = model.Bound r n
 -- The line of a clause.
 abbrev pub lineOf : Sheet → model.ClauseId → List ℕ
 lineOf s q = clauseLine (clause s q)
-
--- The code of a literal that says of a cell that it is a or, with sign 1, that it is not: 0 for a letter cell, and past the last cell.
-abbrev pub placeCode : Sheet → Cell → ℕ → ℕ → ℕ
-placeCode s (letter b) a sign = 0
-placeCode s (place f c) a sign = 2 * number s (K f c a) + sign
-
-unfoldable pub cellCode : Sheet → List Cell → ℕ → ℕ → ℕ → ℕ
-cellCode s us i a sign = pick (ltb i (length us)) (placeCode s (cell us i) a sign) 0
 
 -- A clause as document 01 writes it, in codes, and 0 up to nine of them.
 unfoldable pub nine : Sheet → model.ClauseId → List ℕ

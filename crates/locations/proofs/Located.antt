@@ -18,11 +18,13 @@ use Rattle.model.proofs.Lists.{by-test, each-append}
 use Rattle.model.proofs.Keeping.{each-map, loop-same}
 use Rattle.model.proofs.Pieces.{each-from}
 use Rattle.dimacs.specs.Codes.{codeBytes, codesLine}
-use Rattle.dimacs.proofs.Coded.{terms-line}
-use Rattle.literals.specs.Name.{lineOf, placeCode, cellCode}
-use Rattle.literals.proofs.Laws.{holds-code, lacks-code, blank-code, not-blank-code, if-blank-code}
+use Rattle.dimacs.proofs.Coded.{terms-line, same-three, same-four}
+use Rattle.literals.specs.Name.{lineOf}
+use Rattle.codes.specs.Cell.{placeCode, cellCode}
+use Rattle.codes.proofs.Laws.{holds-code, lacks-code, blank-code, not-blank-code, if-blank-code}
 use Rattle.locations.specs.Lines.{linesOf}
-use Rattle.locations.specs.Codes.{unlikeLine, matchLine, crossLines}
+use Rattle.matching.specs.Codes.{unlikeLine, matchLine}
+use Rattle.crossings.specs.Codes.{crossLines}
 
 -- Numbers beside each other.
 pub value-number : (s : Sheet) (f c a : ℕ) → number s (K f c a) ≡ number s (K f c 0) + a
@@ -39,13 +41,6 @@ down-number s p i j = let e = suc-mul i (suc (length (rightCells s p))) in omega
 
 zero-more : (z : ℕ) → z + 0 ≡ z
 zero-more z = omega arith
-
--- codes that agree
-same-three : {a b c a′ b′ c′ : ℕ} → a ≡ a′ → b ≡ b′ → c ≡ c′ → codesLine (a ∷ b ∷ c ∷ []) ≡ codesLine (a′ ∷ b′ ∷ c′ ∷ [])
-same-three p q r = rw (p, q, r)
-
-pub same-four : {a b c d a′ b′ c′ d′ : ℕ} → a ≡ a′ → b ≡ b′ → c ≡ c′ → d ≡ d′ → codesLine (a ∷ b ∷ c ∷ d ∷ []) ≡ codesLine (a′ ∷ b′ ∷ c′ ∷ d′ ∷ [])
-same-four p q r t = rw (p, q, r, t)
 
 -- codes that are 0 are not written
 module _ (a b c d : ℕ) where

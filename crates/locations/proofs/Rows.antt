@@ -23,9 +23,11 @@ use Rattle.model.proofs.Templates.{well-formed}
 use Rattle.formula.proofs.Valid.{CellIn, cell-in}
 use Rattle.shape.specs.Bytes.{sideBytes, sideOf}
 use Rattle.shape.proofs.Sides.{side-at}
-use Rattle.literals.specs.Name.{placeCode, cellCode}
+use Rattle.codes.specs.Cell.{placeCode, cellCode}
 use Rattle.locations.specs.Lines.{locationLines, rowLines}
-use Rattle.locations.specs.Codes.{mostCode, crossLines, rowOf, Rowed}
+use Rattle.dimacs.specs.Codes.{mostCode}
+use Rattle.crossings.specs.Codes.{crossLines}
+use Rattle.locations.specs.Codes.{rowOf, Rowed}
 use Rattle.locations.proofs.Located.{cross-is}
 
 -- the number of a location by that of the first, and of the first of its row

@@ -1,2 +1,1 @@
-pub mod Summed
 pub mod Whole

@@ -21,8 +21,9 @@ use Rattle.formula.proofs.Totals.{fieldPart, locationPart, rowPart, equationPar
 use Rattle.dimacs.proofs.Coded.{terms-line}
 use Rattle.literals.specs.Name.{lineOf}
 use Rattle.locations.specs.Lines.{linesOf, locationLines, rowLines, equationLines}
-use Rattle.locations.specs.Codes.{unlikeLine}
-use Rattle.rendering.specs.Lines.{placeLines, fieldLines, sumLines, stepLines, boundLine, boundLines, constraintLines, sectionLines}
+use Rattle.matching.specs.Codes.{unlikeLine}
+use Rattle.rendering.specs.Lines.{placeLines, fieldLines, sectionLines}
+use Rattle.sums.specs.Lines.{sumLines, stepLines, boundLine, boundLines, constraintLines}
 use Rattle.rendering.specs.Codes.{pairLines}
 use Rattle.locations.proofs.Located.{value-number}
 

@@ -11,7 +11,7 @@ use Rattle.model.specs.Sheet.{Sheet, template}
 use Rattle.model.specs.Range.{InRange}
 use Rattle.model.specs.Cells.{Cell, letter, place, cells}
 use Rattle.formula.specs.Clause.{cell}
-use Rattle.formula.specs.Count.{cellSide, side}
+use Rattle.formula.specs.Count.{used, atLetter, atField, cellSide, side}
 use Rattle.model.proofs.Lists.{by-test, at}
 use Rattle.model.proofs.Keeping.{map-at, second-at}
 use Rattle.formula.proofs.Small.{letters-few, fields-few, limit-small}
@@ -36,15 +36,25 @@ module _ (us : List Cell) (i : ℕ) where
       ∙ getD-drop (length us) (replicate 25 255) (i - length us) 0
       ∙ getD-replicate 25 (length us + (i - length us)) 255 0 (omega arith)
 
+-- The sides that a byte stands for.
+pub says-used : (x : ℕ) → x ≡ 255 → sideOf x ≡ used
+says-used x e = rw e
+
+pub says-letter : (x : ℕ) → x < 8 → sideOf x ≡ atLetter x
+says-letter x h = rw (lt-ltb x 8 h)
+
+pub says-field : (x : ℕ) → 8 ≤ x → (x ≡ 255 → ⊥) → sideOf x ≡ atField
+says-field x h n = rw (le-ltb x 8 h, ne-eqb x 255 n)
+
 module _ (s : Sheet) (ok : InRange s) where
   -- a letter is below 8, and a place's byte from 8 to 55
   cell-says : (u : Cell) → CellIn s u → sideOf (cellByte u) ≡ cellSide u
-  cell-says (letter a) h = let l = letters-few s ok in rw (lt-ltb a 8 (omega arith))
+  cell-says (letter a) h = let l = letters-few s ok in says-letter a (omega arith)
   cell-says (place f c) h =
       let v = fields-few s ok in
       let n = limit-small s ok f in
       let k : 8 + 8 * f + c ≤ 55 = omega (arith, h) in
-      rw (le-ltb (8 + 8 * f + c) 8 (omega arith), ne-eqb (8 + 8 * f + c) 255 (λ e. omega arith))
+      says-field (8 + 8 * f + c) (omega arith) (λ e. omega arith)
 
   pub side-at : (p : ℕ) → p < length (s .equations) → (k : ℕ) → (i : ℕ) → i ≤ 24
       → sideOf (getD (sideBytes (cells s (template s p k))) i 0) ≡ side (cells s (template s p k)) i

@@ -5,7 +5,7 @@ use borrow.Author.Needs.{needs}
 use borrow.Author.Tests.{eq-eqb, ne-eqb}
 use Rattle.model.specs.Lists.{pick}
 use Rattle.formula.specs.Count.{locationCount}
-use Rattle.counting.proofs.Laws.{says-used, says-letter, says-field}
+use Rattle.shape.proofs.Sides.{says-used, says-letter, says-field}
 use Rattle.counting.proofs.location_count.Statement.{statement}
 use Rattle.counting.proofs.location_count.Tie as tie
 

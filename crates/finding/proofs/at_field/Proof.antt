@@ -7,7 +7,7 @@ use borrow.Author.Needs.{needs}
 use Rattle.formula.specs.Clause.{ClauseId, Match, none}
 use Rattle.formula.specs.Count.{Side, atLetter, atField, SideIn, standing, locationCount}
 use Rattle.shape.specs.Bytes.{sideOf}
-use Rattle.counting.proofs.Laws.{says-letter, says-field}
+use Rattle.shape.proofs.Sides.{says-letter, says-field}
 use Rattle.finding.proofs.Laws.{found, found-at, left-first, letter-before, letter-after, letter-any}
 use Rattle.finding.proofs.at_field.Statement.{statement}
 use Rattle.finding.proofs.at_field.Tie as tie

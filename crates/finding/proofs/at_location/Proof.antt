@@ -7,7 +7,7 @@ use borrow.Author.Needs.{needs}
 use Rattle.formula.specs.Clause.{ClauseId, Match, none}
 use Rattle.formula.specs.Count.{Side, used, atLetter, atField, standing, locationCount}
 use Rattle.shape.specs.Bytes.{sideOf}
-use Rattle.counting.proofs.Laws.{says-used, says-letter, says-field}
+use Rattle.shape.proofs.Sides.{says-used, says-letter, says-field}
 use Rattle.finding.proofs.Laws.{right-field, found, found-at, letters-differ}
 use Rattle.finding.proofs.at_location.Statement.{statement}
 use Rattle.finding.proofs.at_location.Tie as tie

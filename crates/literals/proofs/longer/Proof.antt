@@ -5,7 +5,7 @@ use borrow.Author.Tests.{lt-ltb, le-ltb}
 use Rattle.model.specs.Sheet.{sheetOf, limit}
 use Rattle.formula.specs.Clause.{K}
 use Rattle.formula.specs.Numbering.{number}
-use Rattle.literals.proofs.Laws.{place-code}
+use Rattle.codes.proofs.Laws.{place-code}
 use Rattle.literals.proofs.longer.Statement.{statement}
 use Rattle.literals.proofs.longer.Tie as tie
 

@@ -6,7 +6,8 @@ use Rattle.model.specs.Sheet.{sheetOf}
 use Rattle.formula.specs.Clause.{S, terms, leftCells, rightCells}
 use Rattle.formula.specs.Numbering.{number}
 use Rattle.literals.specs.Name.{nine}
-use Rattle.literals.proofs.Laws.{same-nine, blank-code, not-blank-code, if-blank-code, location-few}
+use Rattle.literals.proofs.Laws.{same-nine, location-few}
+use Rattle.codes.proofs.Laws.{blank-code, not-blank-code, if-blank-code}
 use Rattle.literals.proofs.right.Statement.{statement}
 use Rattle.literals.proofs.right.Tie as tie
 

@@ -6,7 +6,7 @@ use borrow.Author.Tests.{lt-ltb}
 use Rattle.model.specs.Sheet.{sheetOf}
 use Rattle.formula.specs.Clause.{K}
 use Rattle.formula.specs.Numbering.{number}
-use Rattle.literals.proofs.Laws.{place-code}
+use Rattle.codes.proofs.Laws.{place-code}
 use Rattle.literals.proofs.shorter.Statement.{statement}
 use Rattle.literals.proofs.shorter.Tie as tie
 

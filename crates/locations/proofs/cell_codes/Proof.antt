@@ -9,7 +9,7 @@ use Rattle.model.specs.Sheet.{sheetOf, template}
 use Rattle.model.specs.Cells.{cells}
 use Rattle.model.proofs.Keeping.{map-next, length-from}
 use Rattle.model.proofs.Seams.{store-next}
-use Rattle.literals.specs.Name.{cellCode}
+use Rattle.codes.specs.Cell.{cellCode}
 use Rattle.locations.proofs.cell_codes.Statement.{statement}
 use Rattle.locations.proofs.cell_codes.Tie as tie
 

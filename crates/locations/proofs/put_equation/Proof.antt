@@ -14,7 +14,8 @@ use Rattle.model.proofs.Pieces.{loop-none, loop-room, loop-next, loop-done}
 use Rattle.dimacs.proofs.Laws.{Writing, joined, begin, fits, next, ends}
 use Rattle.literals.specs.Name.{lineOf}
 use Rattle.locations.specs.Lines.{rowLines, equationLines}
-use Rattle.locations.specs.Codes.{mostCode, rowOf, Rowed}
+use Rattle.dimacs.specs.Codes.{mostCode}
+use Rattle.locations.specs.Codes.{rowOf, Rowed}
 use Rattle.locations.proofs.Rows.{row-number, location-few, row-told}
 use Rattle.locations.proofs.put_equation.Statement.{statement}
 use Rattle.locations.proofs.put_equation.Tie as tie

@@ -7,7 +7,9 @@ use Rattle.model.specs.Lists.{each, upTo}
 use Rattle.model.proofs.Seams.{Written}
 use Rattle.model.proofs.Pieces.{loop-none, loop-room, loop-next, loop-done}
 use Rattle.shape.specs.Bytes.{sideOf}
-use Rattle.locations.specs.Codes.{largeCode, crossLines, rowOf}
+use Rattle.dimacs.specs.Codes.{largeCode}
+use Rattle.crossings.specs.Codes.{crossLines}
+use Rattle.locations.specs.Codes.{rowOf}
 use Rattle.locations.proofs.put_row.Statement.{statement}
 use Rattle.locations.proofs.put_row.Tie as tie
 
