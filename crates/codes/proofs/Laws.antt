@@ -1,7 +1,7 @@
 -- The codes of literals that speak of a cell are those of the model's terms, and what the bytes of a side say of them. Assumes nothing.
 use mathlib.Core.Path.{_≡_, refl, _∙_}
 use mathlib.Core.Bool.{Bool, true, false}
-use mathlib.Core.List.{List}
+use mathlib.Core.List.{List, [], _∷_}
 use Prim.Native.Nat.{ℕ, _+_, _-_, _*_, _/_, _%_, _<_, _≤_}
 use native.Mathlib.Omega.{arith}
 use lib.Dec.{ltb}
@@ -12,15 +12,23 @@ use Rattle.model.specs.Sheet.{Sheet, template}
 use Rattle.model.specs.Range.{InRange}
 use Rattle.model.specs.Cells.{Cell, letter, place, cells}
 use Rattle.formula.specs.Clause.{K, Term, holds, lacks, isBlank, notBlank, only, blank, cell}
-use Rattle.formula.specs.Numbering.{VariableIn, number}
+use Rattle.formula.specs.Numbering.{LocationIn, VariableIn, number}
 use Rattle.model.proofs.Lists.{at, by-test}
 use Rattle.model.proofs.Templates.{template-in}
-use Rattle.formula.proofs.Small.{letters-few, fields-few, limit-small}
+use Rattle.formula.proofs.Small.{letters-few, fields-few, limit-small, cells-small}
 use Rattle.formula.proofs.Valid.{CellIn, cells-in}
 use Rattle.shape.specs.Bytes.{cellByte, sideBytes}
 use Rattle.shape.proofs.Sides.{cell-at, past-at}
 use Rattle.dimacs.specs.Codes.{termCode}
 use Rattle.codes.specs.Cell.{placeCode, cellCode}
+
+-- a location's places in its two sides
+pub location-few : (s : Sheet) → InRange s → (p i j : ℕ) → LocationIn s p i j → (i ≤ 24) × (j ≤ 24)
+location-few s ok p i j h = let few = cells-small s ok p (h .0) in (omega (arith, h, few), omega (arith, h, few))
+
+-- nine codes, the first four of which agree
+pub same-nine : {a b c d a′ b′ c′ d′ : ℕ} → a ≡ a′ → b ≡ b′ → c ≡ c′ → d ≡ d′ → (a ∷ b ∷ c ∷ d ∷ 0 ∷ 0 ∷ 0 ∷ 0 ∷ 0 ∷ []) ≡ (a′ ∷ b′ ∷ c′ ∷ d′ ∷ 0 ∷ 0 ∷ 0 ∷ 0 ∷ 0 ∷ [])
+same-nine p q r s = rw (p, q, r, s)
 
 -- The code of a cell is that of "is a", "is not a", "is blank", "is not blank".
 holds-place : (s : Sheet) (u : Cell) (a : ℕ) → placeCode s u a 0 ≡ termCode s (holds u a)

@@ -21,6 +21,9 @@ pub const LEFT: usize = 0;
 
 pub const RIGHT: usize = 1;
 
+// The most literals of a clause: nine values of a place.
+pub const MOST_LITERALS: usize = 9;
+
 // The signs of a literal.
 pub const IS: usize = 0;
 

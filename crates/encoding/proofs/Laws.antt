@@ -11,7 +11,7 @@ use Rattle.model.proofs.Lists.{at}
 use Rattle.formula.proofs.Named.{ids-in}
 use Rattle.formula.proofs.Lines.{problem-short}
 use Rattle.dimacs.specs.Codes.{codesLine}
-use Rattle.literals.specs.Name.{nine}
+use Rattle.codes.specs.Nine.{nine}
 use Rattle.literals.proofs.Laws.{nine-line}
 
 pub first-fits : (v c room : ℕ) → v ≤ 9999 → c ≤ 99999 → 80 ≤ room → length (problemLine v c) ≤ room

@@ -1,29 +1,19 @@
 -- Codes of cells are the codes of document 01's terms; nine codes that agree; sums as the code has them. Assumes nothing.
 use mathlib.Core.Path.{_≡_, refl, sym, ap, ap₂, _∙_, fun-ext}
-use mathlib.Core.List.{[], _∷_, _++_, map}
+use mathlib.Core.List.{_++_, map}
 use Prim.Native.Nat.{ℕ, zero, suc, _+_, _-_, _*_, _≤_}
 use native.Mathlib.Omega.{arith}
 use lib.ListN.{length, drop, replicate, length-map}
 use Rattle.model.specs.Lists.{All, upTo}
 use Rattle.model.specs.Sheet.{Sheet}
-use Rattle.model.specs.Range.{InRange}
 use Rattle.formula.specs.Clause.{K, Term, yes, ClauseId, SomeValue, terms, blank}
-use Rattle.formula.specs.Numbering.{LocationIn, number, clause}
+use Rattle.formula.specs.Numbering.{number, clause}
 use Rattle.formula.specs.Dimacs.{clauseLine}
 use Rattle.model.proofs.Keeping.{map-map, length-from}
 use Rattle.model.proofs.Seams.{drop-replicate}
-use Rattle.formula.proofs.Small.{cells-small}
 use Rattle.dimacs.specs.Codes.{termCode, codesLine}
 use Rattle.dimacs.proofs.Coded.{terms-line, padded-line}
-use Rattle.literals.specs.Name.{nine}
-
--- a location's places in its two sides
-pub location-few : (s : Sheet) → InRange s → (p i j : ℕ) → LocationIn s p i j → (i ≤ 24) × (j ≤ 24)
-location-few s ok p i j h = let few = cells-small s ok p (h .0) in (omega (arith, h, few), omega (arith, h, few))
-
--- nine codes, the first four of which agree
-pub same-nine : {a b c d a′ b′ c′ d′ : ℕ} → a ≡ a′ → b ≡ b′ → c ≡ c′ → d ≡ d′ → (a ∷ b ∷ c ∷ d ∷ 0 ∷ 0 ∷ 0 ∷ 0 ∷ 0 ∷ []) ≡ (a′ ∷ b′ ∷ c′ ∷ d′ ∷ 0 ∷ 0 ∷ 0 ∷ 0 ∷ 0 ∷ [])
-same-nine p q r s = rw (p, q, r, s)
+use Rattle.codes.specs.Nine.{nine}
 
 -- Every value of a place: consecutive numbers, and 0 after them.
 pub some-nine : (s : Sheet) (f c first n : ℕ) → first ≡ number s (K f c 0) → n ≡ suc (blank s) → n ≤ 9 → map (λ k. 2 * (first + k)) (upTo n) ++ drop n (replicate 9 0) ≡ nine s (SomeValue f c)

@@ -1,13 +1,10 @@
--- Clauses by name as the code has them, their lines, and their literals as nine codes.
-use mathlib.Core.List.{List, _++_, map}
-use Prim.Native.Nat.{ℕ, _-_}
-use lib.ListN.{length, replicate}
+-- Clauses by name as the code has them, and their lines.
+use mathlib.Core.List.{List}
+use Prim.Native.Nat.{ℕ}
 use Rattle.model.specs.Sheet.{Sheet}
 use Rattle.formula.specs.Clause as model
-use Rattle.formula.specs.Clause.{terms}
 use Rattle.formula.specs.Numbering.{clause}
 use Rattle.formula.specs.Dimacs.{clauseLine}
-use Rattle.dimacs.specs.Codes.{termCode}
 use Rattle.literals.specs.declared.ClauseId.{ClauseId}
 use Rattle.literals.specs.declared.ClauseId.the-variants.{SomeValue, NotBoth, BlankTail, Start, Left, Right, Both, Match, End, Zero, Add, Bound}
 
@@ -29,7 +26,3 @@ nameOf (Bound r n) = model.Bound r n
 -- The line of a clause.
 abbrev pub lineOf : Sheet → model.ClauseId → List ℕ
 lineOf s q = clauseLine (clause s q)
-
--- A clause as document 01 writes it, in codes, and 0 up to nine of them.
-unfoldable pub nine : Sheet → model.ClauseId → List ℕ
-nine s q = map (termCode s) (terms s q) ++ replicate (9 - length (terms s q)) 0

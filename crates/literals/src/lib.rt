@@ -1,10 +1,7 @@
 // A clause by its name, its literals as codes (twice the variable's number, and one more for its negation; 0 for none), and its line.
 use codes::IS;
 use codes::IS_NOT;
-use codes::LEFT;
-use codes::RIGHT;
-use codes::blank_code;
-use codes::cell_code;
+use codes::MOST_LITERALS;
 use codes::location_code;
 use codes::place_code;
 use codes::sum_code;
@@ -21,7 +18,8 @@ ghost use Rattle.formula.specs.Clause as model;
 ghost use Rattle.formula.specs.Numbering.{PlaceIn};
 ghost use Rattle.formula.specs.Count.{IdIn};
 ghost use Rattle.dimacs.specs.Codes.{termCode};
-ghost use Rattle.literals.specs.Name.{nameOf, lineOf, nine};
+ghost use Rattle.codes.specs.Nine.{nine};
+ghost use Rattle.literals.specs.Name.{nameOf, lineOf};
 
 // The name of a clause: of a place of a field; of an equation, or a location of it; of a constraint. The sums of Add and Bound are signed.
 pub enum ClauseId {
@@ -38,9 +36,6 @@ pub enum ClauseId {
     Add(usize, usize, i16, usize),
     Bound(usize, i16),
 }
-
-// The most literals of a clause: nine values of a place.
-pub const MOST_LITERALS: usize = 9;
 
 // Every value of a place.
 fn some_value(sheet: &[u8], f: usize, c: usize) -> [usize; MOST_LITERALS]
@@ -85,64 +80,6 @@ fn start(sheet: &[u8], p: usize) -> [usize; MOST_LITERALS]
     ensures { λ r. ⌜ r ≡ nine (sheetOf (now (sheet .entry))) (model.Start p) ⌝ }
 {
     [location_code(sheet, p, 0, 0, IS), 0, 0, 0, 0, 0, 0, 0, 0]
-}
-
-// Document 01's B: past a blank on the left.
-fn left(sheet: &[u8], p: usize, i: usize, j: usize) -> [usize; MOST_LITERALS]
-    requires { ⌜ Admitted (now sheet) × IdIn (sheetOf (now sheet)) (model.Left p i j) ⌝ }
-    ensures { λ r. ⌜ r ≡ nine (sheetOf (now (sheet .entry))) (model.Left p i j) ⌝ }
-{
-    let here = location_code(sheet, p, i, j, IS_NOT);
-    let u = blank_code(sheet, p, LEFT, i, IS_NOT);
-    let next = location_code(sheet, p, i + 1, j, IS);
-    [here, u, next, 0, 0, 0, 0, 0, 0]
-}
-
-// Document 01's C: past a blank on the right.
-fn right(sheet: &[u8], p: usize, i: usize, j: usize) -> [usize; MOST_LITERALS]
-    requires { ⌜ Admitted (now sheet) × IdIn (sheetOf (now sheet)) (model.Right p i j) ⌝ }
-    ensures { λ r. ⌜ r ≡ nine (sheetOf (now (sheet .entry))) (model.Right p i j) ⌝ }
-{
-    let here = location_code(sheet, p, i, j, IS_NOT);
-    let u = blank_code(sheet, p, LEFT, i, IS);
-    let v = blank_code(sheet, p, RIGHT, j, IS_NOT);
-    let next = location_code(sheet, p, i, j + 1, IS);
-    [here, u, v, next, 0, 0, 0, 0, 0]
-}
-
-// Document 01's D: past two letters.
-fn both(sheet: &[u8], p: usize, i: usize, j: usize) -> [usize; MOST_LITERALS]
-    requires { ⌜ Admitted (now sheet) × IdIn (sheetOf (now sheet)) (model.Both p i j) ⌝ }
-    ensures { λ r. ⌜ r ≡ nine (sheetOf (now (sheet .entry))) (model.Both p i j) ⌝ }
-{
-    let here = location_code(sheet, p, i, j, IS_NOT);
-    let first = blank_code(sheet, p, LEFT, i, IS);
-    let second = blank_code(sheet, p, RIGHT, j, IS);
-    let next = location_code(sheet, p, i + 1, j + 1, IS);
-    [here, first, second, next, 0, 0, 0, 0, 0]
-}
-
-// Document 01's E: two letters are the same.
-fn matching(sheet: &[u8], p: usize, i: usize, j: usize, a: usize) -> [usize; MOST_LITERALS]
-    requires { ⌜ Admitted (now sheet) × IdIn (sheetOf (now sheet)) (model.Match p i j a) ⌝ }
-    ensures { λ r. ⌜ r ≡ nine (sheetOf (now (sheet .entry))) (model.Match p i j a) ⌝ }
-{
-    let here = location_code(sheet, p, i, j, IS_NOT);
-    let blank = blank_code(sheet, p, RIGHT, j, IS);
-    let u = cell_code(sheet, p, LEFT, i, a, IS_NOT);
-    let v = cell_code(sheet, p, RIGHT, j, a, IS);
-    [here, blank, u, v, 0, 0, 0, 0, 0]
-}
-
-// Document 01's F: where one side is used up the other has only blanks.
-fn end(sheet: &[u8], p: usize, i: usize, j: usize) -> [usize; MOST_LITERALS]
-    requires { ⌜ Admitted (now sheet) × IdIn (sheetOf (now sheet)) (model.End p i j) ⌝ }
-    ensures { λ r. ⌜ r ≡ nine (sheetOf (now (sheet .entry))) (model.End p i j) ⌝ }
-{
-    let here = location_code(sheet, p, i, j, IS_NOT);
-    let v = blank_code(sheet, p, RIGHT, j, IS);
-    let u = blank_code(sheet, p, LEFT, i, IS);
-    [here, v, u, 0, 0, 0, 0, 0, 0]
 }
 
 // The sum of no fields is 0.
@@ -223,11 +160,11 @@ pub fn codes(sheet: &[u8], id: ClauseId) -> [usize; MOST_LITERALS]
         ClauseId::NotBoth(f, c, a, b) => not_both(sheet, f, c, a, b),
         ClauseId::BlankTail(f, c) => blank_tail(sheet, f, c),
         ClauseId::Start(p) => start(sheet, p),
-        ClauseId::Left(p, i, j) => left(sheet, p, i, j),
-        ClauseId::Right(p, i, j) => right(sheet, p, i, j),
-        ClauseId::Both(p, i, j) => both(sheet, p, i, j),
-        ClauseId::Match(p, i, j, a) => matching(sheet, p, i, j, a),
-        ClauseId::End(p, i, j) => end(sheet, p, i, j),
+        ClauseId::Left(p, i, j) => moves::left(sheet, p, i, j),
+        ClauseId::Right(p, i, j) => moves::right(sheet, p, i, j),
+        ClauseId::Both(p, i, j) => moves::both(sheet, p, i, j),
+        ClauseId::Match(p, i, j, a) => moves::matching(sheet, p, i, j, a),
+        ClauseId::End(p, i, j) => moves::end(sheet, p, i, j),
         ClauseId::Zero(r) => zero(sheet, r),
         ClauseId::Add(r, k, n, d) => add(sheet, r, k, n, d),
         ClauseId::Bound(r, n) => bound(sheet, r, n),

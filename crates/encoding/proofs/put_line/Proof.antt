@@ -10,7 +10,7 @@ use Rattle.formula.specs.Count.{IdIn}
 use Rattle.formula.specs.Dimacs.{problemLine, line}
 use Rattle.formula.proofs.Lines.{line-short, first-line}
 use Rattle.dimacs.specs.Codes.{codesLine}
-use Rattle.literals.specs.Name.{nine}
+use Rattle.codes.specs.Nine.{nine}
 use Rattle.encoding.proofs.Laws.{first-fits, later-line, id-in}
 use Rattle.encoding.proofs.put_line.Statement.{statement}
 use Rattle.encoding.proofs.put_line.Tie as tie

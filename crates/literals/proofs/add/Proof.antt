@@ -11,8 +11,8 @@ use Rattle.formula.specs.Numbering.{SumIn, number}
 use Rattle.formula.proofs.Small.{fields-few}
 use Rattle.formula.proofs.Integers.{sum-next}
 use Rattle.numbering.proofs.Laws.{sum-back}
-use Rattle.literals.specs.Name.{nine}
-use Rattle.literals.proofs.Laws.{same-nine}
+use Rattle.codes.specs.Nine.{nine}
+use Rattle.codes.proofs.Laws.{same-nine}
 use Rattle.literals.proofs.add.Statement.{statement}
 use Rattle.literals.proofs.add.Tie as tie
 

@@ -6,9 +6,8 @@ use Rattle.model.specs.Sheet.{sheetOf}
 use Rattle.formula.specs.Clause.{K, terms, blank}
 use Rattle.formula.specs.Numbering.{number}
 use Rattle.formula.proofs.Small.{limit-small}
-use Rattle.literals.specs.Name.{nine}
-use Rattle.literals.proofs.Laws.{same-nine}
-use Rattle.codes.proofs.Laws.{place-code}
+use Rattle.codes.specs.Nine.{nine}
+use Rattle.codes.proofs.Laws.{place-code, same-nine}
 use Rattle.literals.proofs.blank_tail.Statement.{statement}
 use Rattle.literals.proofs.blank_tail.Tie as tie
 

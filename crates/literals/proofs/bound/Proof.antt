@@ -9,8 +9,8 @@ use Rattle.model.specs.Sheet.{sheetOf}
 use Rattle.formula.specs.Clause.{T, terms}
 use Rattle.formula.specs.Numbering.{number}
 use Rattle.numbering.proofs.Laws.{sum-back}
-use Rattle.literals.specs.Name.{nine}
-use Rattle.literals.proofs.Laws.{same-nine}
+use Rattle.codes.specs.Nine.{nine}
+use Rattle.codes.proofs.Laws.{same-nine}
 use Rattle.literals.proofs.bound.Statement.{statement}
 use Rattle.literals.proofs.bound.Tie as tie
 

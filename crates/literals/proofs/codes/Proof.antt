@@ -14,7 +14,8 @@ use Rattle.formula.specs.Count.{IdIn}
 use Rattle.numbering.proofs.Laws.{sum-back}
 use Rattle.literals.specs.declared.ClauseId.{ClauseId}
 use Rattle.literals.specs.declared.ClauseId.the-variants.{Add, Bound}
-use Rattle.literals.specs.Name.{nameOf, nine}
+use Rattle.literals.specs.Name.{nameOf}
+use Rattle.codes.specs.Nine.{nine}
 use Rattle.literals.proofs.codes.Statement.{statement}
 use Rattle.literals.proofs.codes.Tie as tie
 

@@ -2,9 +2,8 @@
 use mathlib.Core.Path.{refl}
 use native.Mathlib.Omega.{arith}
 use Rattle.formula.specs.Clause.{terms}
-use Rattle.literals.specs.Name.{nine}
-use Rattle.literals.proofs.Laws.{same-nine}
-use Rattle.codes.proofs.Laws.{place-code}
+use Rattle.codes.specs.Nine.{nine}
+use Rattle.codes.proofs.Laws.{place-code, same-nine}
 use Rattle.literals.proofs.not_both.Statement.{statement}
 use Rattle.literals.proofs.not_both.Tie as tie
 

@@ -2,8 +2,8 @@
 use mathlib.Core.Path.{refl}
 use native.Mathlib.Omega.{arith}
 use Rattle.formula.specs.Clause.{terms}
-use Rattle.literals.specs.Name.{nine}
-use Rattle.literals.proofs.Laws.{same-nine}
+use Rattle.codes.specs.Nine.{nine}
+use Rattle.codes.proofs.Laws.{same-nine}
 use Rattle.literals.proofs.start.Statement.{statement}
 use Rattle.literals.proofs.start.Tie as tie
 

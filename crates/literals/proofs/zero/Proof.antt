@@ -4,8 +4,8 @@ use native.Mathlib.Omega.{arith}
 use Rattle.model.specs.Sheet.{sheetOf, constraint}
 use Rattle.formula.specs.Clause.{terms}
 use Rattle.formula.proofs.Integers.{sum-zero}
-use Rattle.literals.specs.Name.{nine}
-use Rattle.literals.proofs.Laws.{same-nine}
+use Rattle.codes.specs.Nine.{nine}
+use Rattle.codes.proofs.Laws.{same-nine}
 use Rattle.literals.proofs.zero.Statement.{statement}
 use Rattle.literals.proofs.zero.Tie as tie
 

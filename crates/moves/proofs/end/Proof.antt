@@ -1,14 +1,13 @@
--- `literals::end` meets its contract. Assumes nothing.
+-- `moves::end` meets its contract. Assumes nothing.
 use mathlib.Core.Path.{refl, _∙_}
 use Prim.Native.Nat.{_≤_}
 use native.Mathlib.Omega.{arith}
 use Rattle.model.specs.Sheet.{sheetOf}
 use Rattle.formula.specs.Clause.{terms, leftCells, rightCells}
-use Rattle.literals.specs.Name.{nine}
-use Rattle.literals.proofs.Laws.{same-nine, location-few}
-use Rattle.codes.proofs.Laws.{blank-code, if-blank-code}
-use Rattle.literals.proofs.end.Statement.{statement}
-use Rattle.literals.proofs.end.Tie as tie
+use Rattle.codes.specs.Nine.{nine}
+use Rattle.codes.proofs.Laws.{blank-code, if-blank-code, same-nine, location-few}
+use Rattle.moves.proofs.end.Statement.{statement}
+use Rattle.moves.proofs.end.Tie as tie
 
 -- a side has few cells
 few : (c : tie.Start) → (c .args .i ≤ 24) × (c .args .j ≤ 24)

@@ -1,15 +1,14 @@
--- `literals::right` meets its contract. Assumes nothing.
+-- `moves::both` meets its contract. Assumes nothing.
 use mathlib.Core.Path.{_≡_, ap, _∙_}
 use Prim.Native.Nat.{suc, _+_, _*_, _≤_}
 use native.Mathlib.Omega.{arith}
 use Rattle.model.specs.Sheet.{sheetOf}
 use Rattle.formula.specs.Clause.{S, terms, leftCells, rightCells}
 use Rattle.formula.specs.Numbering.{number}
-use Rattle.literals.specs.Name.{nine}
-use Rattle.literals.proofs.Laws.{same-nine, location-few}
-use Rattle.codes.proofs.Laws.{blank-code, not-blank-code, if-blank-code}
-use Rattle.literals.proofs.right.Statement.{statement}
-use Rattle.literals.proofs.right.Tie as tie
+use Rattle.codes.specs.Nine.{nine}
+use Rattle.codes.proofs.Laws.{blank-code, same-nine, location-few}
+use Rattle.moves.proofs.both.Statement.{statement}
+use Rattle.moves.proofs.both.Tie as tie
 
 -- a side has few cells
 few : (c : tie.Start) → (c .args .i ≤ 24) × (c .args .j ≤ 24)
@@ -33,6 +32,11 @@ add-location-code c =
     let at-start = c .before .before .before .before in
     omega (arith, few at-start)
 
+add-location-code-2 : tie.Need-add-location-code-2
+add-location-code-2 c =
+    let at-start = c .before .before .before .before in
+    omega (arith, few at-start)
+
 location-code-requires-2 : tie.Need-location-code-requires-2
 location-code-requires-2 c κs =
     let at-start = c .before .before .before .before in
@@ -48,17 +52,19 @@ returns c =
     let a = at-start .args in
     let us = leftCells s (a .p) in
     let vs = rightCells s (a .p) in
+    let ei : a .i + 1 ≡ suc (a .i) = omega arith in
     let ej : a .j + 1 ≡ suc (a .j) = omega arith in
-    let next = c .location-code2 .ensures ∙ ap (λ n. 2 * number s (S (a .p) (a .i) n) + 0) ej in
-    same-nine (at-location-code .ensures) (at-blank-code .ensures ∙ if-blank-code s us (a .i)) (c .before .blank-code2 .ensures ∙ not-blank-code s vs (a .j) (at-start .pre .1 .1)) (omega arith)
+    let next = c .location-code2 .ensures ∙ ap (λ n. 2 * number s (S (a .p) n (a .j + 1)) + 0) ei ∙ ap (λ n. 2 * number s (S (a .p) (suc (a .i)) n) + 0) ej in
+    same-nine (at-location-code .ensures) (at-blank-code .ensures ∙ blank-code s us (a .i) (at-start .pre .1 .1)) (c .before .blank-code2 .ensures ∙ blank-code s vs (a .j) (at-start .pre .1 .2)) (omega arith)
 
-pub right-spec : {M : Type 1} → statement M
-right-spec =
+pub both-spec : {M : Type 1} → statement M
+both-spec =
     tie.close
     (tie.spec
     location-code-requires
     blank-code-requires
     blank-code-requires-2
     add-location-code
+    add-location-code-2
     location-code-requires-2
     returns)

@@ -1,15 +1,14 @@
--- `literals::left` meets its contract. Assumes nothing.
+-- `moves::left` meets its contract. Assumes nothing.
 use mathlib.Core.Path.{_≡_, refl, ap, _∙_}
 use Prim.Native.Nat.{suc, _+_, _*_, _≤_}
 use native.Mathlib.Omega.{arith}
 use Rattle.model.specs.Sheet.{sheetOf}
 use Rattle.formula.specs.Clause.{S, terms, leftCells, rightCells}
 use Rattle.formula.specs.Numbering.{number}
-use Rattle.literals.specs.Name.{nine}
-use Rattle.literals.proofs.Laws.{same-nine, location-few}
-use Rattle.codes.proofs.Laws.{blank-code, not-blank-code}
-use Rattle.literals.proofs.left.Statement.{statement}
-use Rattle.literals.proofs.left.Tie as tie
+use Rattle.codes.specs.Nine.{nine}
+use Rattle.codes.proofs.Laws.{blank-code, not-blank-code, same-nine, location-few}
+use Rattle.moves.proofs.left.Statement.{statement}
+use Rattle.moves.proofs.left.Tie as tie
 
 -- a side has few cells
 few : (c : tie.Start) → (c .args .i ≤ 24) × (c .args .j ≤ 24)

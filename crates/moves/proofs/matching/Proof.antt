@@ -1,14 +1,13 @@
--- `literals::matching` meets its contract. Assumes nothing.
+-- `moves::matching` meets its contract. Assumes nothing.
 use mathlib.Core.Path.{_∙_}
 use Prim.Native.Nat.{_≤_}
 use native.Mathlib.Omega.{arith}
 use Rattle.model.specs.Sheet.{sheetOf}
 use Rattle.formula.specs.Clause.{terms, leftCells, rightCells}
-use Rattle.literals.specs.Name.{nine}
-use Rattle.literals.proofs.Laws.{same-nine, location-few}
-use Rattle.codes.proofs.Laws.{holds-code, lacks-code, blank-code}
-use Rattle.literals.proofs.matching.Statement.{statement}
-use Rattle.literals.proofs.matching.Tie as tie
+use Rattle.codes.specs.Nine.{nine}
+use Rattle.codes.proofs.Laws.{holds-code, lacks-code, blank-code, same-nine, location-few}
+use Rattle.moves.proofs.matching.Statement.{statement}
+use Rattle.moves.proofs.matching.Tie as tie
 
 -- a side has few cells
 few : (c : tie.Start) → (c .args .i ≤ 24) × (c .args .j ≤ 24)
