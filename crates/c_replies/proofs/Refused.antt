@@ -1,6 +1,6 @@
--- Demand 1 (docs/DEMANDS.md) of `tpl_reply`, from its contract alone: the first refusal number that applies, negated, with what is lent as it was; if none
--- applies, a number from 0 on. Assumes nothing.
-use mathlib.Core.Path.{_≡_, refl, sym, _∙_}
+-- Demand 1 (docs/DEMANDS.md) of `tpl_reply`, from its contract alone: the first refusal number that applies, negated, with
+-- what is lent as it was; if none applies, a number from 0 on. Assumes nothing.
+use mathlib.Core.Path.{refl, sym, _∙_}
 use mathlib.Core.List.{List}
 use Prim.Native.Nat.{ℕ}
 use lib.IntN.{ℤ}

@@ -1,6 +1,5 @@
--- Demand 1 (docs/DEMANDS.md) of `tpl_search`, from its contract alone: the first refusal number that applies, negated, with what is lent as it was; if none
--- applies, a number from 0 on. Assumes nothing.
-use mathlib.Core.Path.{_≡_}
+-- Demand 1 (docs/DEMANDS.md) of `tpl_search`, from its contract alone: the first refusal number that applies, negated, with
+-- what is lent as it was; if none applies, a number from 0 on. Assumes nothing.
 use mathlib.Core.List.{List, [], _∷_}
 use Prim.Native.Nat.{ℕ}
 use lib.IntN.{ℤ}

@@ -1,20 +1,15 @@
 // Finds the clause of a number, counted from 0: whole parts are skipped by their counts.
 use literals::ClauseId;
-use scan::wide;
-use shape::FIRST_PLACE;
-use shape::ROOM;
 use shape::Section;
-use shape::USED;
 ghost use mathlib.Core.Path.{_≡_};
 ghost use Prim.Native.Nat.{_+_, _<_, _≤_};
 ghost use lib.IntN.{pos, _+ℤ_};
-ghost use lib.ListN.{length, getD};
+ghost use lib.ListN.{length};
 ghost use Rattle.model.specs.Lists.{total};
 ghost use Rattle.model.specs.Sheet.{sheetOf, constraint};
 ghost use Rattle.model.specs.Range.{Admitted};
-ghost use Rattle.formula.specs.Clause.{none, ids, idAt, least, spread, leftCells, rightCells};
-ghost use Rattle.formula.specs.Count.{atField, SideIn, standing, locationCount, fieldCount, rowCount, equationCount, constraintCount, equationStart, constraintStart, parts, partCounts, sectionStart};
-ghost use Rattle.shape.specs.Bytes.{sideBytes, sideOf};
+ghost use Rattle.formula.specs.Clause.{ids, idAt, least, spread};
+ghost use Rattle.formula.specs.Count.{fieldCount, constraintCount, constraintStart, parts, partCounts, sectionStart};
 ghost use Rattle.shape.specs.Name.{sectionOf};
 ghost use Rattle.literals.specs.Name.{nameOf};
 
@@ -39,119 +34,6 @@ fn in_field(sheet: &[u8], f: usize, n: usize) -> ClauseId
         a += 1;
     }
     ClauseId::BlankTail(f, c)
-}
-
-// Clause n of those of a location with a place of a field on the left and a cell on the right; l is the number of letters.
-fn at_field(l: usize, p: usize, i: usize, j: usize, v: u8, n: usize) -> ClauseId
-    requires { ⌜ (v ≡ 255 → ⊥) × SideIn l (sideOf v) × (n < locationCount l atField (sideOf v)) ⌝ }
-    ensures { λ r. ⌜ nameOf r ≡ getD (standing l p i j atField (sideOf v)) n none ⌝ }
-{
-    if n == 0 {
-        return ClauseId::Left(p, i, j);
-    }
-    if v < FIRST_PLACE {
-        if n == 1 {
-            return ClauseId::Both(p, i, j);
-        }
-        if n - 2 < wide(v) {
-            return ClauseId::Match(p, i, j, n - 2);
-        }
-        return ClauseId::Match(p, i, j, n - 1);
-    }
-    if n == 1 {
-        return ClauseId::Right(p, i, j);
-    }
-    if n == 2 {
-        return ClauseId::Both(p, i, j);
-    }
-    ClauseId::Match(p, i, j, n - 3)
-}
-
-// Clause n of those of a location, by what stands on its two sides; l is the number of letters.
-fn at_location(l: usize, p: usize, i: usize, j: usize, u: u8, v: u8, n: usize) -> ClauseId
-    requires { ⌜ (l ≤ 8) × SideIn l (sideOf u) × SideIn l (sideOf v) × (n < locationCount l (sideOf u) (sideOf v)) ⌝ }
-    ensures { λ r. ⌜ nameOf r ≡ getD (standing l p i j (sideOf u) (sideOf v)) n none ⌝ }
-{
-    if u == USED {
-        if v < FIRST_PLACE {
-            return ClauseId::End(p, i, j);
-        }
-        if n == 0 {
-            return ClauseId::Right(p, i, j);
-        }
-        return ClauseId::End(p, i, j);
-    }
-    if v == USED {
-        if u < FIRST_PLACE {
-            return ClauseId::End(p, i, j);
-        }
-        if n == 0 {
-            return ClauseId::Left(p, i, j);
-        }
-        return ClauseId::End(p, i, j);
-    }
-    if u < FIRST_PLACE {
-        if v < FIRST_PLACE {
-            if n == 0 {
-                return ClauseId::Both(p, i, j);
-            }
-            return ClauseId::Match(p, i, j, wide(u));
-        }
-        if n == 0 {
-            return ClauseId::Right(p, i, j);
-        }
-        if n == 1 {
-            return ClauseId::Both(p, i, j);
-        }
-        return ClauseId::Match(p, i, j, wide(u));
-    }
-    at_field(l, p, i, j, v, n)
-}
-
-// Clause n of those of a row of locations, those with cell i on the left, whose byte is u; `right` has the cells on the right.
-fn in_row(sheet: &[u8], p: usize, i: usize, u: u8, right: [u8; ROOM], n: usize) -> ClauseId
-    requires { ⌜ Admitted (now sheet) × (p < length (sheetOf (now sheet) .equations)) × (i ≤ length (leftCells (sheetOf (now sheet)) p)) × (u ≡ getD (sideBytes (leftCells (sheetOf (now sheet)) p)) i 0) × (right ≡ sideBytes (rightCells (sheetOf (now sheet)) p)) × (n < rowCount (sheetOf (now sheet)) p i) ⌝ }
-    ensures { λ r. ⌜ nameOf r ≡ idAt (sheetOf (now (sheet .entry))) (equationStart (sheetOf (now (sheet .entry))) p + (1 + (total i (rowCount (sheetOf (now (sheet .entry))) p) + n))) ⌝ }
-{
-    let letters = shape::letters(sheet);
-    let width = shape::width(sheet, p, 1);
-    let mut rest = n;
-    let mut j: usize = 0;
-    while j <= width {
-        let size = counting::location_count(letters, u, right[j]);
-        if rest < size {
-            return at_location(letters, p, i, j, u, right[j], rest);
-        }
-        rest = rest - size;
-        j += 1;
-    }
-    ClauseId::Start(p)
-}
-
-// Clause n of those of equation p.
-fn in_equation(sheet: &[u8], p: usize, n: usize) -> ClauseId
-    requires { ⌜ Admitted (now sheet) × (p < length (sheetOf (now sheet) .equations)) × (n < equationCount (sheetOf (now sheet)) p) ⌝ }
-    ensures { λ r. ⌜ nameOf r ≡ idAt (sheetOf (now (sheet .entry))) (equationStart (sheetOf (now (sheet .entry))) p + n) ⌝ }
-{
-    if n == 0 {
-        return ClauseId::Start(p);
-    }
-    let letters = shape::letters(sheet);
-    let m = shape::width(sheet, p, 0);
-    let width = shape::width(sheet, p, 1);
-    let left = shape::side(sheet, p, 0);
-    let right = shape::side(sheet, p, 1);
-    let mut rest = n - 1;
-    let mut i: usize = 0;
-    while i <= m {
-        let size = counting::row_count(letters, left[i], right, width);
-        if rest < size {
-            return in_row(sheet, p, i, left[i], right, rest);
-        }
-        rest = rest - size;
-        i += 1;
-    }
-    ClauseId::Start(p)
 }
 
 // The n-th sum of the first k fields, from the least on.
@@ -195,7 +77,7 @@ fn in_part(sheet: &[u8], section: Section, i: usize, n: usize) -> ClauseId
 {
     match section {
         Section::Fields => in_field(sheet, i, n),
-        Section::Equations => in_equation(sheet, i, n),
+        Section::Equations => locating::in_equation(sheet, i, n),
         Section::Constraints => in_constraint(sheet, i, n),
     }
 }

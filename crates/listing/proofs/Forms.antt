@@ -11,11 +11,11 @@ use Rattle.model.specs.Lists.{all}
 use Rattle.calls.specs.Reply.{lines, lineEnded, known, given, givenOnce}
 use Rattle.calls.specs.Calls.{Answer, require, formed}
 use Rattle.model.proofs.Lists.{by-test, or-right}
-use Rattle.listing.specs.declared.Tally.{Tally}
-use Rattle.listing.specs.declared.Lines.the-variants.{Known, Unknown}
+use Rattle.tally.specs.declared.Tally.{Tally}
+use Rattle.tally.specs.declared.Lines.the-variants.{Known, Unknown}
+use Rattle.tally.specs.Tally.{nothing, isMarked, afterLines, ReadLines}
 use Rattle.listing.specs.declared.Fault.the-variants.{End, Line, Status, Closing, Above, Twice}
 use Rattle.listing.specs.declared.Listing.the-variants.{Listed, Refused}
-use Rattle.listing.specs.Tally.{nothing, isMarked, afterLines, ReadLines}
 use Rattle.listing.specs.Answer.{Form}
 use Rattle.listing.proofs.Meaning.{Means, means}
 

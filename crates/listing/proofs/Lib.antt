@@ -1,5 +1,2 @@
-mod Marks
-mod Pieces
-mod Texts
 mod Meaning
 mod Forms

@@ -14,9 +14,9 @@ use Rattle.formula.specs.Assignment.{truth}
 use Rattle.formula.specs.Dimacs.{numbers}
 use Rattle.calls.specs.Reply.{split, spaced, lines, satisfiableLine, statusLine, valueLine, before, oneStatus, lineNumbers, given, isEmpty, closed, inCount, distinct, givenOnce, isPlus, assigned}
 use Rattle.model.proofs.Lists.{by-test, and-split, same-equal}
-use Rattle.listing.specs.declared.Tally.{Tally}
-use Rattle.listing.specs.Tally.{State, isMarked, noted, marked, isPos, afterNumber, afterNumbers, withValues, afterLine, afterLines, nothing}
-use Rattle.listing.proofs.Marks.{marked-long, marked-one, truth-one}
+use Rattle.tally.specs.declared.Tally.{Tally}
+use Rattle.tally.specs.Tally.{State, isMarked, noted, marked, isPos, afterNumber, afterNumbers, withValues, afterLine, afterLines, nothing}
+use Rattle.tally.proofs.Marks.{marked-long, marked-one, truth-one}
 
 -- Tests, in another order or form.
 or-swap : (a b c d : Bool) → ((a || b) || (c || d)) ≡ ((a || c) || (b || d))

@@ -4,18 +4,19 @@ use mathlib.Core.Bool.{true, false}
 use Prim.Native.Nat.{ℕ, zero, suc, _<_, _≤_}
 use native.Mathlib.Omega.{arith}
 use lib.Dec.{T}
-use lib.IntN.{ℤ, pos, negsuc, natAbs, _-ℤ_, _*ℤ_}
+use lib.IntN.{ℤ, pos, negsuc, natAbs, _+ℤ_, _-ℤ_, _*ℤ_}
 use lib.Signed.{ltZ, nonNeg}
 use borrow.Author.Tests.{ltb-true, lt-ltb}
 use lib.ListN.{length}
 use mir.Syntax.{w16, w64}
 use mir.Val.{Fits, SFits, toZ, ofZ}
+use mir.ValLaws.{toZ-pos}
 use Rattle.model.specs.Sheet.{Sheet, constraint}
 use Rattle.model.specs.Range.{InRange}
-use Rattle.formula.specs.Clause.{lowest, least, fields}
+use Rattle.formula.specs.Clause.{lowest, least, spread, fields}
 use Rattle.formula.specs.Numbering.{SumIn}
 use Rattle.model.proofs.Lists.{never}
-use Rattle.formula.proofs.Integers.{from-least}
+use Rattle.formula.proofs.Integers.{from-least, sum-in}
 use Rattle.model.proofs.Sums.{abs-add}
 use Rattle.formula.proofs.Small.{fields-few, least-small, spread-small}
 use Rattle.scan.proofs.Machine.{small-fits, small-back}
@@ -77,3 +78,28 @@ module _ (s : Sheet) (ok : InRange s) (r k : ℕ) (h : r < length (s .constraint
 
     pub offset-is : natAbs (toZ w16 (ofZ w16 (toZ w16 (ofZ w16 n) -ℤ toZ w16 (ofZ w16 low)))) ≡ natAbs (n -ℤ least s (constraint s r) k)
     offset-is = ap natAbs offset-back
+
+-- A sum of the first k fields under constraint r, as the machine has it.
+module _ (s : Sheet) (ok : InRange s) (r : ℕ) (hr : r < length (s .constraints)) (k : ℕ) (hk : k ≤ fields s) (n : ℕ) (hn : n ≤ spread s (constraint s r) k) where
+  abbrev pub sum : ℤ
+  sum = least s (constraint s r) k +ℤ pos n
+
+  pub number-few : n ≤ 192
+  number-few = omega (arith, spread-small s ok r hr k, fields-few s ok)
+
+  pub number-fits : SFits w16 (pos n)
+  number-fits = small-fits w16 (pos n) (omega (arith, number-few))
+
+  module _ (low : ℤ) (is : low ≡ least s (constraint s r) k) where
+    sum-is : toZ w16 (ofZ w16 low) +ℤ toZ w16 n ≡ sum
+    sum-is =
+        rw (is, small-back w16 (least s (constraint s r) k) (omega (arith, least-small s ok r hr k, fields-few s ok)), toZ-pos w16 n (omega (arith, number-few)))
+
+    pub add-fits : SFits w16 (toZ w16 (ofZ w16 low) +ℤ toZ w16 n)
+    add-fits = rw sum-is (small-fits w16 sum (omega (arith, sum-fits s ok r k hr hk sum (sum-in s (constraint s r) k n hn))))
+
+    pub add-back : toZ w16 (ofZ w16 (toZ w16 (ofZ w16 low) +ℤ toZ w16 n)) ≡ sum
+    add-back = rw sum-is (sum-back s ok r k hr hk sum (sum-in s (constraint s r) k n hn))
+
+  pub read-back : (q : ℤ) → q ≡ sum → toZ w16 (ofZ w16 q) ≡ sum
+  read-back q e = rw e (sum-back s ok r k hr hk sum (sum-in s (constraint s r) k n hn))

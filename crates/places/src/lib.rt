@@ -45,7 +45,7 @@ fn values(sheet: &[u8], marks: &[u8], f: usize, c: usize) -> Truths
     let mut a = blank + 1;
     while a > 0 {
         a -= 1;
-        if marks[first + a] == listing::PLUS {
+        if marks[first + a] == tally::PLUS {
             count += 1;
             least = a;
         }

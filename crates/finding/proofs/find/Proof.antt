@@ -4,7 +4,7 @@ use native.Mathlib.Omega.{arith}
 use Rattle.model.specs.Sheet.{sheetOf}
 use Rattle.formula.specs.Count.{ofEquations, ofConstraints, sectionStart}
 use Rattle.counting.proofs.Laws.{clauses-known}
-use Rattle.finding.proofs.Laws.{same-number}
+use Rattle.locating.proofs.Laws.{same-number}
 use Rattle.finding.proofs.find.Statement.{statement}
 use Rattle.finding.proofs.find.Tie as tie
 

@@ -6,7 +6,8 @@ use Rattle.model.specs.Lists.{total}
 use Rattle.model.specs.Sheet.{sheetOf}
 use Rattle.formula.specs.Count.{stepCount}
 use Rattle.formula.proofs.Small.{fields-few}
-use Rattle.finding.proofs.Laws.{at-first, at-next, zero-found, sum-below, add-found, bound-below, bound-small, bound-found}
+use Rattle.locating.proofs.Laws.{at-first, at-next}
+use Rattle.finding.proofs.Laws.{zero-found, sum-below, add-found, bound-below, bound-small, bound-found}
 use Rattle.finding.proofs.in_constraint.Statement.{statement}
 use Rattle.finding.proofs.in_constraint.Tie as tie
 

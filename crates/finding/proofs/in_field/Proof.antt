@@ -5,7 +5,8 @@ use native.Mathlib.Omega.{arith}
 use Rattle.model.specs.Lists.{total}
 use Rattle.model.specs.Sheet.{sheetOf}
 use Rattle.formula.proofs.Small.{letters-few}
-use Rattle.finding.proofs.Laws.{at-first, at-next, some-found, not-both-found, tail-found}
+use Rattle.locating.proofs.Laws.{at-first, at-next}
+use Rattle.finding.proofs.Laws.{some-found, not-both-found, tail-found}
 use Rattle.finding.proofs.in_field.Statement.{statement}
 use Rattle.finding.proofs.in_field.Tie as tie
 

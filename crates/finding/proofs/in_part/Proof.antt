@@ -8,7 +8,7 @@ use Rattle.model.specs.Sheet.{sheetOf}
 use Rattle.formula.specs.Clause.{idAt}
 use Rattle.formula.specs.Count.{ofFields, ofEquations, ofConstraints, parts, partCounts, sectionStart, fieldCount, equationStart, constraintStart}
 use Rattle.shape.specs.Name.{sectionOf}
-use Rattle.finding.proofs.Laws.{same-number}
+use Rattle.locating.proofs.Laws.{same-number}
 use Rattle.finding.proofs.in_part.Statement.{statement}
 use Rattle.finding.proofs.in_part.Tie as tie
 

@@ -6,7 +6,7 @@ use Rattle.model.specs.Lists.{total}
 use Rattle.model.specs.Sheet.{sheetOf}
 use Rattle.formula.specs.Count.{parts, partCounts, sectionStart}
 use Rattle.shape.specs.Name.{sectionOf}
-use Rattle.finding.proofs.Laws.{at-first, at-next, never-past, same-number}
+use Rattle.locating.proofs.Laws.{at-first, at-next, never-past, same-number}
 use Rattle.finding.proofs.in_section.Statement.{statement}
 use Rattle.finding.proofs.in_section.Tie as tie
 

@@ -1,7 +1,7 @@
 -- `finding::sum_at` meets its contract. Assumes nothing.
 use borrow.Author.Needs.{needs}
 use Rattle.model.specs.Sheet.{sheetOf}
-use Rattle.finding.proofs.Laws.{number-fits, add-fits, add-back}
+use Rattle.numbering.proofs.Laws.{number-fits, add-fits, add-back}
 use Rattle.finding.proofs.sum_at.Statement.{statement}
 use Rattle.finding.proofs.sum_at.Tie as tie
 

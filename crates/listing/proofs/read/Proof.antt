@@ -6,7 +6,7 @@ use borrow.Author.Needs.{needs}
 use borrow.Author.Tests.{eqb-true, eqb-false, not-true, not-false}
 use lib.ListN.{length}
 use Rattle.calls.specs.Reply.{lineEnded}
-use Rattle.listing.specs.Tally.{ReadLines}
+use Rattle.tally.specs.Tally.{ReadLines}
 use Rattle.listing.proofs.Forms.{ended-empty, ended-last, Come, come, form-end, form-line, form-none, form-again, form-early, form-after, form-open, form-above, form-twice, form-listed}
 use Rattle.listing.proofs.read.Statement.{statement}
 use Rattle.listing.proofs.read.Tie as tie

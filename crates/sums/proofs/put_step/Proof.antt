@@ -14,7 +14,7 @@ use Rattle.formula.specs.Numbering.{number}
 use Rattle.model.proofs.Seams.{Written}
 use Rattle.model.proofs.Pieces.{loop-none, loop-room, loop-next, loop-done}
 use Rattle.formula.proofs.Small.{letters-few, fields-few}
-use Rattle.finding.proofs.Laws.{number-fits, add-fits, add-back}
+use Rattle.numbering.proofs.Laws.{number-fits, add-fits, add-back}
 use Rattle.dimacs.specs.Codes.{mostCode, largeCode}
 use Rattle.sums.specs.Lines.{sumLines, stepLines}
 use Rattle.sums.specs.Codes.{addLine, Added}

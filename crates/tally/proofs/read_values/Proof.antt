@@ -1,4 +1,4 @@
--- `listing::read_values` meets its contract. The loop's invariant: what is left of the line decides what all of it does, with the tally and the
+-- `tally::read_values` meets its contract. The loop's invariant: what is left of the line decides what all of it does, with the tally and the
 -- marks that the numbers before have come to. Assumes nothing.
 use mathlib.Core.Path.{subst, _∙_}
 use mathlib.Core.Logic.{⊎-elim}
@@ -7,9 +7,9 @@ use native.Mathlib.Omega.{arith}
 use borrow.Author.Needs.{needs}
 use lib.ListN.{length, take, drop}
 use Rattle.numerals.specs.Said.{Said}
-use Rattle.listing.proofs.Pieces.{Noted, noted-none, noted-all, noted-unknown, noted-plus, noted-minus, piece-at}
-use Rattle.listing.proofs.read_values.Statement.{statement}
-use Rattle.listing.proofs.read_values.Tie as tie
+use Rattle.tally.proofs.Pieces.{Noted, noted-none, noted-all, noted-unknown, noted-plus, noted-minus, piece-at}
+use Rattle.tally.proofs.read_values.Statement.{statement}
+use Rattle.tally.proofs.read_values.Tie as tie
 
 abbrev Inv-loop : tie.InvT-loop
 Inv-loop marks₀ line sum₀ at₀ marks sum at = Noted marks₀ sum₀ line at marks sum

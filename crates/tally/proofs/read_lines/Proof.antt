@@ -1,4 +1,4 @@
--- `listing::read_lines` meets its contract. The loop's invariant: what is left of the text decides what all of it does, with the tally and the
+-- `tally::read_lines` meets its contract. The loop's invariant: what is left of the text decides what all of it does, with the tally and the
 -- marks that the lines before have come to. Assumes nothing.
 use mathlib.Core.Path.{subst, _∙_}
 use Prim.Native.Nat.{_-_}
@@ -6,10 +6,10 @@ use native.Mathlib.Omega.{arith}
 use borrow.Author.Needs.{needs}
 use lib.ListN.{length, take, drop, length-drop}
 use lib.Seq.{length-take-le}
-use Rattle.listing.specs.Tally.{ReadLine}
-use Rattle.listing.proofs.Texts.{Passed, passed-none, passed-all, passed-unknown, passed-more}
-use Rattle.listing.proofs.read_lines.Statement.{statement}
-use Rattle.listing.proofs.read_lines.Tie as tie
+use Rattle.tally.specs.Tally.{ReadLine}
+use Rattle.tally.proofs.Texts.{Passed, passed-none, passed-all, passed-unknown, passed-more}
+use Rattle.tally.proofs.read_lines.Statement.{statement}
+use Rattle.tally.proofs.read_lines.Tie as tie
 
 abbrev Inv-loop : tie.InvT-loop
 Inv-loop marks₀ text sum₀ at₀ marks sum at = Passed marks₀ text at marks sum

@@ -1,11 +1,11 @@
--- `listing::note` meets its contract: past the last mark there is none to set. Assumes nothing.
+-- `tally::note` meets its contract: past the last mark there is none to set. Assumes nothing.
 use mathlib.Core.Path.{ap}
 use borrow.Author.Needs.{needs}
 use lib.ListN.{set}
-use Rattle.listing.specs.Tally.{marked}
-use Rattle.listing.proofs.Marks.{noted-above, noted-here, marked-above}
-use Rattle.listing.proofs.note.Statement.{statement}
-use Rattle.listing.proofs.note.Tie as tie
+use Rattle.tally.specs.Tally.{marked}
+use Rattle.tally.proofs.Marks.{noted-above, noted-here, marked-above}
+use Rattle.tally.proofs.note.Statement.{statement}
+use Rattle.tally.proofs.note.Tie as tie
 
 slice-read-either : tie.Need-slice-read-either
 slice-read-either c = search needs

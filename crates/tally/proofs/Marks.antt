@@ -12,8 +12,8 @@ use Rattle.model.specs.Lists.{pick}
 use Rattle.formula.specs.Assignment.{truth}
 use Rattle.calls.specs.Reply.{isPlus}
 use Rattle.model.proofs.Lists.{by-test, or-right}
-use Rattle.listing.specs.declared.Tally.{Tally}
-use Rattle.listing.specs.Tally.{isMarked, markOf, noted, marked, isPos}
+use Rattle.tally.specs.declared.Tally.{Tally}
+use Rattle.tally.specs.Tally.{isMarked, markOf, noted, marked, isPos}
 
 -- A number is noted: past the last mark, and at its mark.
 module _ (m : List ℕ) (t : Tally) (n : ℕ) where

@@ -1,4 +1,4 @@
--- `finding::at_location` meets its contract: the table of specs/Count, line by line. Assumes nothing.
+-- `locating::at_location` meets its contract: the table of specs/Count, line by line. Assumes nothing.
 use mathlib.Core.Path.{_≡_, refl, ap, subst, _∙_}
 use Prim.Native.Nat.{ℕ, _<_}
 use native.Mathlib.Omega.{arith}
@@ -8,9 +8,9 @@ use Rattle.formula.specs.Clause.{ClauseId, Match, none}
 use Rattle.formula.specs.Count.{Side, used, atLetter, atField, standing, locationCount}
 use Rattle.shape.specs.Bytes.{sideOf}
 use Rattle.shape.proofs.Sides.{says-used, says-letter, says-field}
-use Rattle.finding.proofs.Laws.{right-field, found, found-at, letters-differ}
-use Rattle.finding.proofs.at_location.Statement.{statement}
-use Rattle.finding.proofs.at_location.Tie as tie
+use Rattle.locating.proofs.Laws.{right-field, found, found-at, letters-differ}
+use Rattle.locating.proofs.at_location.Statement.{statement}
+use Rattle.locating.proofs.at_location.Tie as tie
 
 -- a line of the table
 there : (c : tie.Start) →

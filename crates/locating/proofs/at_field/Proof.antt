@@ -1,4 +1,4 @@
--- `finding::at_field` meets its contract: the lines of specs/Count's table with a place of a field on the left. Assumes nothing.
+-- `locating::at_field` meets its contract: the lines of specs/Count's table with a place of a field on the left. Assumes nothing.
 use mathlib.Core.Path.{_≡_, refl, subst}
 use Prim.Native.Nat.{ℕ, _-_, _<_}
 use native.Mathlib.Omega.{arith}
@@ -8,9 +8,9 @@ use Rattle.formula.specs.Clause.{ClauseId, Match, none}
 use Rattle.formula.specs.Count.{Side, atLetter, atField, SideIn, standing, locationCount}
 use Rattle.shape.specs.Bytes.{sideOf}
 use Rattle.shape.proofs.Sides.{says-letter, says-field}
-use Rattle.finding.proofs.Laws.{found, found-at, left-first, letter-before, letter-after, letter-any}
-use Rattle.finding.proofs.at_field.Statement.{statement}
-use Rattle.finding.proofs.at_field.Tie as tie
+use Rattle.locating.proofs.Laws.{found, found-at, left-first, letter-before, letter-after, letter-any}
+use Rattle.locating.proofs.at_field.Statement.{statement}
+use Rattle.locating.proofs.at_field.Tie as tie
 
 -- a line of the table
 there : (c : tie.Start) →

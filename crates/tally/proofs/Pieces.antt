@@ -15,12 +15,12 @@ use Rattle.calls.specs.Reply.{isNumber, split, spaced}
 use Rattle.model.proofs.Lists.{by-test}
 use Rattle.model.proofs.Spans.{before-end}
 use Rattle.calls.proofs.Splitting.{split-piece}
-use Rattle.listing.specs.declared.Tally.{Tally}
+use Rattle.tally.specs.declared.Tally.{Tally}
 use Rattle.numerals.specs.declared.Piece.the-variants as piece
-use Rattle.listing.specs.declared.Lines.the-variants.{Known, Unknown}
-use Rattle.listing.specs.Tally.{noted, marked, isPos, afterNumber, afterNumbers, valuePieces, ReadValues}
+use Rattle.tally.specs.declared.Lines.the-variants.{Known, Unknown}
+use Rattle.tally.specs.Tally.{noted, marked, isPos, afterNumber, afterNumbers, valuePieces, ReadValues}
 use Rattle.numerals.specs.Said.{Said}
-use Rattle.listing.proofs.Marks.{marked-long}
+use Rattle.tally.proofs.Marks.{marked-long}
 
 -- A stretch up to an end byte that stands after the whole list too, and what follows it.
 module _ (x : ℕ) where

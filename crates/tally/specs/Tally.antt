@@ -9,9 +9,9 @@ use lib.ListN.{length, getD, set, drop}
 use Rattle.model.specs.Lists.{pick, all}
 use Rattle.formula.specs.Dimacs.{numbers}
 use Rattle.calls.specs.Reply.{split, lines, spaced, isNumber, statusLine, valueLine, known, lineNumbers}
-use Rattle.listing.specs.declared.Tally.{Tally}
-use Rattle.listing.specs.declared.Lines.{Lines}
-use Rattle.listing.specs.declared.Lines.the-variants.{Known, Unknown}
+use Rattle.tally.specs.declared.Tally.{Tally}
+use Rattle.tally.specs.declared.Lines.{Lines}
+use Rattle.tally.specs.declared.Lines.the-variants.{Known, Unknown}
 
 -- A number's mark: 0 where it is not listed, 1 where it is listed without a minus, else 2.
 abbrev pub isMarked : List ℕ → ℕ → Bool

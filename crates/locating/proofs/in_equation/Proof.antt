@@ -1,4 +1,4 @@
--- `finding::in_equation` meets its contract. The loop's invariant: rest is the number among the clauses of the rows from i on. Assumes nothing.
+-- `locating::in_equation` meets its contract. The loop's invariant: rest is the number among the clauses of the rows from i on. Assumes nothing.
 use mathlib.Core.Path.{_≡_, ap, subst, _∙_}
 use Prim.Native.Nat.{suc, _+_, _-_, _<_, _≤_}
 use native.Mathlib.Omega.{arith}
@@ -9,9 +9,9 @@ use Rattle.formula.specs.Clause.{leftCells}
 use Rattle.formula.specs.Count.{rowCount, equationStart}
 use Rattle.formula.proofs.Small.{letters-few}
 use Rattle.counting.proofs.Laws.{row-known, equation-known}
-use Rattle.finding.proofs.Laws.{at-first, at-next, never-past, same-number, start-found}
-use Rattle.finding.proofs.in_equation.Statement.{statement}
-use Rattle.finding.proofs.in_equation.Tie as tie
+use Rattle.locating.proofs.Laws.{at-first, at-next, never-past, same-number, start-found}
+use Rattle.locating.proofs.in_equation.Statement.{statement}
+use Rattle.locating.proofs.in_equation.Tie as tie
 
 abbrev Inv-loop : tie.InvT-loop
 Inv-loop sheet p n letters m width left right rest₀ i₀ rest i = (i ≤ m + 1) × (total i (rowCount (sheetOf sheet) p) + rest ≡ n - 1)

@@ -1,8 +1,8 @@
--- `listing::mark` meets its contract: by what the mark was. Assumes nothing.
+-- `tally::mark` meets its contract: by what the mark was. Assumes nothing.
 use borrow.Author.Needs.{needs}
 use borrow.Author.Tests.{eq-eqb, ne-eqb}
-use Rattle.listing.proofs.mark.Statement.{statement}
-use Rattle.listing.proofs.mark.Tie as tie
+use Rattle.tally.proofs.mark.Statement.{statement}
+use Rattle.tally.proofs.mark.Tie as tie
 
 returns : tie.Need-returns
 returns c = search needs

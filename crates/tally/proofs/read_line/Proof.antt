@@ -1,12 +1,12 @@
--- `listing::read_line` meets its contract: by the line's first byte and its first space. Assumes nothing.
+-- `tally::read_line` meets its contract: by the line's first byte and its first space. Assumes nothing.
 use mathlib.Core.Path.{sym, _∙_}
 use mathlib.Core.Logic.{⊎-elim}
 use native.Mathlib.Omega.{arith}
 use borrow.Author.Needs.{needs}
 use borrow.Author.Tests.{eqb-true, eqb-false, not-true, not-false}
-use Rattle.listing.proofs.Texts.{line-empty, line-status, line-comment, line-other, line-values}
-use Rattle.listing.proofs.read_line.Statement.{statement}
-use Rattle.listing.proofs.read_line.Tie as tie
+use Rattle.tally.proofs.Texts.{line-empty, line-status, line-comment, line-other, line-values}
+use Rattle.tally.proofs.read_line.Statement.{statement}
+use Rattle.tally.proofs.read_line.Tie as tie
 
 slice-aggregate-same : tie.Need-slice-aggregate-same
 slice-aggregate-same c = search needs

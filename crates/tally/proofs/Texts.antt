@@ -12,12 +12,12 @@ use Rattle.calls.specs.Reply.{isNumber, split, lines, spaced, comment, statusLi
 use Rattle.model.proofs.Lists.{or-right}
 use Rattle.model.proofs.Spans.{span-short}
 use Rattle.calls.proofs.Splitting.{split-first}
-use Rattle.listing.specs.declared.Tally.{Tally}
-use Rattle.listing.specs.declared.Lines.{Lines}
-use Rattle.listing.specs.declared.Lines.the-variants.{Known, Unknown}
-use Rattle.listing.specs.Tally.{nothing, afterLine, afterLines, valuePieces, ReadValues, ReadLine, ReadLines}
+use Rattle.tally.specs.declared.Tally.{Tally}
+use Rattle.tally.specs.declared.Lines.{Lines}
+use Rattle.tally.specs.declared.Lines.the-variants.{Known, Unknown}
+use Rattle.tally.specs.Tally.{nothing, afterLine, afterLines, valuePieces, ReadValues, ReadLine, ReadLines}
 use Rattle.numerals.proofs.Firsts.{starts, starts-not, alone-not}
-use Rattle.listing.proofs.Pieces.{piece-at}
+use Rattle.tally.proofs.Pieces.{piece-at}
 
 -- What a line's first byte, and the offset of its first space, say of its form.
 v-first : (l : List ℕ) → 1 ≤ length l → getD l 0 0 ≡ 118 → same (take 1 l) (118 ∷ []) ≡ true

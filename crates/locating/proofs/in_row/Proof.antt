@@ -1,4 +1,4 @@
--- `finding::in_row` meets its contract. The loop's invariant: rest is the number among the clauses of the locations from j on. Assumes nothing.
+-- `locating::in_row` meets its contract. The loop's invariant: rest is the number among the clauses of the locations from j on. Assumes nothing.
 use mathlib.Core.Path.{_≡_, subst, _∙_}
 use Prim.Native.Nat.{suc, _+_, _-_, _<_, _≤_}
 use native.Mathlib.Omega.{arith}
@@ -8,9 +8,9 @@ use Rattle.model.specs.Sheet.{sheetOf}
 use Rattle.formula.specs.Clause.{rightCells}
 use Rattle.formula.specs.Count.{locationSize}
 use Rattle.formula.proofs.Small.{letters-few}
-use Rattle.finding.proofs.Laws.{at-first, at-next, never-past, location-known, sides-known, location-found}
-use Rattle.finding.proofs.in_row.Statement.{statement}
-use Rattle.finding.proofs.in_row.Tie as tie
+use Rattle.locating.proofs.Laws.{at-first, at-next, never-past, location-known, sides-known, location-found}
+use Rattle.locating.proofs.in_row.Statement.{statement}
+use Rattle.locating.proofs.in_row.Tie as tie
 
 abbrev Inv-loop : tie.InvT-loop
 Inv-loop sheet p i u n right letters width rest₀ j₀ rest j = (j ≤ width + 1) × (total j (locationSize (sheetOf sheet) p i) + rest ≡ n)

@@ -1,0 +1,3 @@
+pub mod Marks
+mod Pieces
+mod Texts
