@@ -136,8 +136,13 @@ fn better(plan: &Plan) -> Vec<String> {
         .groups()
         .flat_map(|group| group.rows.iter().map(move |row| (group, row)))
     {
-        for (n, one) in row.iter().map(|seat| &seat.name).enumerate() {
-            for other in row[..n].iter().map(|seat| &seat.name) {
+        let names: Vec<&String> = row
+            .iter()
+            .filter(|seat| seat.taken())
+            .map(|seat| &seat.name)
+            .collect();
+        for (n, one) in names.iter().enumerate() {
+            for other in &names[..n] {
                 if crossings(&plan.exchanged(one, other)) < now {
                     let name = &group.name;
                     faults.push(format!(

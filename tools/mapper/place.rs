@@ -98,7 +98,11 @@ fn spans(row: &[Seat], width: f64) -> Vec<(f64, f64)> {
 /// The height of a row.
 fn row_height(plan: &Plan, row: &[Seat], width: f64) -> f64 {
     let needed = |(seat, (_, width)): (&Seat, (f64, f64))| label::needed(plan, &seat.name, width);
-    let most = row.iter().zip(spans(row, width)).filter_map(needed).max();
+    let taken = row
+        .iter()
+        .zip(spans(row, width))
+        .filter(|(seat, _)| seat.taken());
+    let most = taken.filter_map(needed).max();
     2.0 * BOX_PAD + LINE * most.unwrap_or(1) as f64
 }
 
@@ -162,7 +166,8 @@ fn put_floor(plan: &Plan, floor: &[Group], all: &mut Places) {
             ROW_GAP + (height - body((group, width))) / (group.rows.len() as f64 - 1.0).max(1.0);
         let mut y = all.height + top;
         for (row, h) in group.rows.iter().zip(row_heights(plan, group, *width)) {
-            for (seat, (left, w)) in row.iter().zip(spans(row, *width)) {
+            let seats = row.iter().zip(spans(row, *width));
+            for (seat, (left, w)) in seats.filter(|(seat, _)| seat.taken()) {
                 let x = x + left;
                 all.boxes.insert(seat.name.clone(), Rect { x, y, w, h });
             }

@@ -3,11 +3,18 @@
 use std::collections::{BTreeMap, BTreeSet};
 use std::path::Path;
 
-/// A crate in a row, and how many columns wide it is.
+/// A crate in a row, and how many columns wide it is; or room, with a dash for a name.
 #[derive(Clone)]
 pub struct Seat {
     pub name: String,
     pub wide: usize,
+}
+
+impl Seat {
+    /// Whether a crate sits here.
+    pub fn taken(&self) -> bool {
+        self.name != "-"
+    }
 }
 
 /// A group: its name, a few words, and its crates in rows, the top row first.
@@ -20,7 +27,8 @@ pub struct Group {
 
 impl Group {
     pub fn crates(&self) -> impl Iterator<Item = &String> {
-        self.rows.iter().flatten().map(|seat| &seat.name)
+        let seats = self.rows.iter().flatten();
+        seats.filter(|seat| seat.taken()).map(|seat| &seat.name)
     }
 }
 
@@ -128,7 +136,7 @@ fn reduced(all: &BTreeMap<String, BTreeSet<String>>, name: &str) -> Vec<String> 
         .collect()
 }
 
-/// A crate, or one with a star and the number of its columns.
+/// A crate, or one with a star and the number of its columns; a dash is room.
 fn seat(word: &str) -> Option<Seat> {
     let (name, wide) = word.split_once('*').unwrap_or((word, "1"));
     Some(Seat {

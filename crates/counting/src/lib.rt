@@ -7,7 +7,7 @@ ghost use mathlib.Core.Path.{_≡_};
 ghost use Prim.Native.Nat.{suc, _<_, _≤_};
 ghost use lib.ListN.{length, getD};
 ghost use Rattle.model.specs.Lists.{total};
-ghost use Rattle.model.specs.Sheet.{sheetOf, constraint};
+ghost use Rattle.model.specs.Sheet.{sheetOf};
 ghost use Rattle.model.specs.Range.{Admitted};
 ghost use Rattle.formula.specs.Count.{notBothCount, fieldCount, locationCount, equationCount, stepCount, constraintCount, parts, partCounts};
 ghost use Rattle.formula.specs.Clause.{ids};
@@ -109,25 +109,6 @@ pub fn equation_count(sheet: &[u8], p: usize) -> usize
     sum
 }
 
-// Of the sums that all fields may have under constraint r, those that are at most its limit.
-pub fn within(sheet: &[u8], r: usize) -> usize
-    requires { ⌜ Admitted (now sheet) × (r < length (sheetOf (now sheet) .constraints)) ⌝ }
-    ensures { λ n. ⌜ (n ≡ model.within (sheetOf (now (sheet .entry))) (constraint (sheetOf (now (sheet .entry))) r)) × (n ≤ 193) ⌝ }
-{
-    let fields = shape::fields(sheet);
-    let sums = numbering::spread(sheet, r, fields) + 1;
-    let least = numbering::least(sheet, r, fields);
-    let most = parts::most(sheet, r);
-    if most < least {
-        return 0;
-    }
-    let d = ((most as i32) - (least as i32)) as usize;
-    if d < sums {
-        return d + 1;
-    }
-    sums
-}
-
 // The clauses of field k's step under constraint r: one for each sum of the fields before it and each length.
 pub fn step_count(sheet: &[u8], r: usize, k: usize) -> usize
     requires { ⌜ Admitted (now sheet) × (r < length (sheetOf (now sheet) .constraints)) × (k < length (sheetOf (now sheet) .limits)) ⌝ }
@@ -157,7 +138,7 @@ pub fn constraint_count(sheet: &[u8], r: usize) -> usize
     ensures { λ n. ⌜ (n ≡ constraintCount (sheetOf (now (sheet .entry))) r) × (n ≤ 10616) ⌝ }
 {
     let sums = numbering::spread(sheet, r, shape::fields(sheet)) + 1;
-    1 + steps_count(sheet, r) + (sums - within(sheet, r))
+    1 + steps_count(sheet, r) + (sums - numbering::within(sheet, r))
 }
 
 // The clauses of part i of a section: of a field, of an equation, of a constraint.

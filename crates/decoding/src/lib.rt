@@ -62,7 +62,7 @@ fn hand_over(sheet: &[u8], marks: &[u8], buf: &mut [u8]) -> Reply
         return Reply::Refused(Refusal::Blank);
     }
     let g = places::spelled(sheet, marks);
-    if !substitution::solves(sheet, g) {
+    if !judge::solves(sheet, g) {
         return Reply::Refused(Refusal::NoClash);
     }
     fields::store(buf, g, shape::fields(sheet));

@@ -66,7 +66,7 @@ fn in_constraint(sheet: &[u8], r: usize, n: usize) -> ClauseId
     }
     ClauseId::Bound(
         r,
-        sum_at(sheet, r, fields, counting::within(sheet, r) + rest),
+        sum_at(sheet, r, fields, numbering::within(sheet, r) + rest),
     )
 }
 

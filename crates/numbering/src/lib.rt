@@ -11,6 +11,7 @@ ghost use Rattle.formula.specs.Clause.{K, S, T};
 ghost use Rattle.formula.specs.Clause as model;
 ghost use Rattle.formula.specs.Numbering.{VariableIn, rowSize, variableCount, number};
 ghost use Rattle.formula.specs.Count.{parts, variableCounts};
+ghost use Rattle.formula.specs.Count as count;
 ghost use Rattle.shape.specs.Name.{sectionOf};
 
 // The least product of a coefficient and a length up to n.
@@ -61,6 +62,25 @@ pub fn spread(sheet: &[u8], r: usize, k: usize) -> usize
         f += 1;
     }
     sum
+}
+
+// Of the sums that all fields may have under constraint r, those that are at most its limit.
+pub fn within(sheet: &[u8], r: usize) -> usize
+    requires { ⌜ Admitted (now sheet) × (r < length (sheetOf (now sheet) .constraints)) ⌝ }
+    ensures { λ n. ⌜ (n ≡ count.within (sheetOf (now (sheet .entry))) (constraint (sheetOf (now (sheet .entry))) r)) × (n ≤ 193) ⌝ }
+{
+    let fields = shape::fields(sheet);
+    let sums = spread(sheet, r, fields) + 1;
+    let least = least(sheet, r, fields);
+    let most = parts::most(sheet, r);
+    if most < least {
+        return 0;
+    }
+    let d = ((most as i32) - (least as i32)) as usize;
+    if d < sums {
+        return d + 1;
+    }
+    sums
 }
 
 // The variables T of constraint r with fewer than k fields summed.

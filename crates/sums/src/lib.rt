@@ -146,7 +146,7 @@ fn put_bounds(buf: &mut [u8], at: usize, sheet: &[u8], r: usize) -> usize
 {
     let fields = shape::fields(sheet);
     let first = sum_code(sheet, r, fields, numbering::least(sheet, r, fields), IS);
-    let within = counting::within(sheet, r);
+    let within = numbering::within(sheet, r);
     let over = numbering::spread(sheet, r, fields) + 1 - within;
     let mut past = at;
     let mut n: usize = 0;

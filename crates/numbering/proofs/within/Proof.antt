@@ -1,4 +1,4 @@
--- `counting::within` meets its contract: the limit below the least sum, among the sums, and above them all. Assumes nothing.
+-- `numbering::within` meets its contract: the limit below the least sum, among the sums, and above them all. Assumes nothing.
 use mathlib.Core.Path.{_≡_, _∙_}
 use Prim.Native.Nat.{_+_, _≤_}
 use native.Mathlib.Omega.{arith}
@@ -6,9 +6,9 @@ use lib.IntN.{natAbs, _-ℤ_}
 use Rattle.model.specs.Sheet.{sheetOf, constraint}
 use Rattle.model.specs.Range.{Signed16}
 use Rattle.formula.specs.Count.{atMost, within}
-use Rattle.counting.proofs.Limits.{most-fits, least-fits, difference-fits, difference-natural, none-within, some-within, all-within, limit-in, least-few, within-known}
-use Rattle.counting.proofs.within.Statement.{statement}
-use Rattle.counting.proofs.within.Tie as tie
+use Rattle.numbering.proofs.Limits.{most-fits, least-fits, difference-fits, difference-natural, none-within, some-within, all-within, limit-in, least-few, within-known}
+use Rattle.numbering.proofs.within.Statement.{statement}
+use Rattle.numbering.proofs.within.Tie as tie
 
 fields-requires : tie.Need-fields-requires
 fields-requires c κs = c .before .pre .0
