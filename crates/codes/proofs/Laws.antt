@@ -1,4 +1,5 @@
--- The codes of literals that speak of a cell are those of the model's terms, and what the bytes of a side say of them. Assumes nothing.
+-- The codes of literals that speak of a cell are those of the model's terms, and what the bytes of a side say of them; nine codes that agree. Assumes
+-- nothing.
 use mathlib.Core.Path.{_≡_, refl, _∙_}
 use mathlib.Core.Bool.{Bool, true, false}
 use mathlib.Core.List.{List, [], _∷_}

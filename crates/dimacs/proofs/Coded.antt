@@ -1,4 +1,4 @@
--- Codes and the model: what is written of the codes of a clause's literals is the clause's line. Assumes nothing.
+-- Codes and the model: what is written of the codes of a clause's literals is the clause's line; codes that agree are written alike. Assumes nothing.
 use mathlib.Core.Path.{_≡_, refl, ap, ap₂, _∙_}
 use mathlib.Core.List.{List, [], _∷_, _++_, map, append-nil}
 use Prim.Native.Nat.{ℕ, zero, suc, _+_, _*_, _/_, _<_}

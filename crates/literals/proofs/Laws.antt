@@ -1,4 +1,4 @@
--- Codes of cells are the codes of document 01's terms; nine codes that agree; sums as the code has them. Assumes nothing.
+-- The nine codes of a place's values, and that nine codes are written as the clause's line. Assumes nothing.
 use mathlib.Core.Path.{_≡_, refl, sym, ap, ap₂, _∙_, fun-ext}
 use mathlib.Core.List.{_++_, map}
 use Prim.Native.Nat.{ℕ, zero, suc, _+_, _-_, _*_, _≤_}

@@ -1,4 +1,5 @@
-// The variables of an accepted sheet's clauses: their numbers, and how many there are. All K come first, then S, then T.
+// The variables of an accepted sheet's clauses: their numbers, and how many there are. All K come first, then S, then T. Of a constraint's sums also
+// the least, how far they go, and how many its limit admits.
 use shape::Section;
 ghost use mathlib.Core.Path.{_≡_};
 ghost use Prim.Native.Nat.{_+_, _<_, _≤_};
