@@ -29,7 +29,7 @@ module _ (t : ℕ → Bool) (n : ℕ) where
   none-in h = by-test (any t (upTo n)) (λ e. let r = some-out e in never (sym (h (r .0) (r .1)) ∙ r .2)) (λ e. e)
 
 -- A side at greater lengths, and at the same lengths.
-side-grows : (xs m n : List ℕ) → ((f : ℕ) → f < 6 → getD m f 0 ≤ getD n f 0) → sideSum xs m ≤ sideSum xs n
+pub side-grows : (xs m n : List ℕ) → ((f : ℕ) → f < 6 → getD m f 0 ≤ getD n f 0) → sideSum xs m ≤ sideSum xs n
 unfolding sideSum
 side-grows xs m n h =
     let k : 6 ≤ 6 = omega arith in

@@ -17,7 +17,7 @@ ghost use Rattle.inequalities.specs.Rows.{sideSum, hopelessOf};
 pub type Marks = [bool; 4];
 
 // The numbers of a side of a row, and of both.
-const SIDE: usize = 7;
+pub const SIDE: usize = 7;
 
 pub const ROW_SIZE: usize = 14;
 
@@ -29,7 +29,7 @@ pub type Row = [u16; ROW_SIZE];
 pub const ROOM: usize = 168;
 
 // The factor at an offset, times a length.
-fn term(rows: &[u16], at: usize, n: u8) -> usize
+pub fn term(rows: &[u16], at: usize, n: u8) -> usize
     requires { ⌜ at < length (now rows) ⌝ }
     ensures { λ r. ⌜ (r ≡ getD (now (rows .entry)) at 0 * n) × (r ≤ 16711425) ⌝ }
 {
@@ -38,7 +38,7 @@ fn term(rows: &[u16], at: usize, n: u8) -> usize
 }
 
 // The side of a row that starts at an offset, at these lengths.
-fn side_sum(rows: &[u16], at: usize, n: Lengths) -> usize
+pub fn side_sum(rows: &[u16], at: usize, n: Lengths) -> usize
     requires { ⌜ at + 7 ≤ length (now rows) ⌝ }
     ensures { λ r. ⌜ r ≡ sideSum (drop at (now (rows .entry))) n ⌝ }
 {
