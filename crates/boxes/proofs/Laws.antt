@@ -1,216 +1,81 @@
--- Laws of the search in boxes: a box is cut only where nothing in it succeeds, and otherwise parted by the length of one field, whichever. Stated of any
--- `try` where that is enough. Assumes nothing.
-use mathlib.Core.Path.{_≡_, refl, sym, ap, _∙_}
+-- Laws of the search in boxes: a box is cut only where nothing in it succeeds, and otherwise parted by the length of one field, whichever. Assumes nothing.
+use mathlib.Core.Path.{_≡_, refl, sym, ap, subst, _∙_}
 use mathlib.Core.Bool.{Bool, true, false}
 use mathlib.Core.List.{List, [], _∷_}
 use mathlib.Core.Logic.{_⊎_, inl, inr}
-use Prim.Native.Nat.{ℕ, zero, suc, _+_, _*_, _-_, _<_, _≤_}
+use Prim.Native.Nat.{ℕ, _+_, _*_, _-_, _<_, _≤_}
 use native.Mathlib.Omega.{arith}
-use native.Mathlib.Decide.{ℕ-discrete}
 use lib.ListN.{getD, length, set, drop}
-use lib.Seq.{getD-set-same, getD-set-other}
 use borrow.Author.Tests.{leb-true}
-use Rattle.model.specs.Lists.{from, upTo, all, total}
+use Rattle.model.specs.Lists.{pick, from, upTo, total}
 use Rattle.model.proofs.Lists.{never, by-test, all-out, below-out}
-use Rattle.formula.proofs.Small.{total-grows}
 use Rattle.unification.specs.declared.Found.{Found}
+use Rattle.unification.proofs.Laws.{pick-ind}
 use Rattle.attempt.specs.Attempt.{Equation, equations, attemptOf}
-use Rattle.inequalities.specs.Rows.{sideSum, rowHolds, hopelessRow, rowsHold, hopelessOf, Within}
+use Rattle.inequalities.specs.Rows.{sideSum, rowHolds, hopelessRow, rowsHold, Within}
 use Rattle.inequalities.proofs.Boxes.{hopeful-holds, hopeless-nowhere}
-use Rattle.bounds.specs.declared.Ranges.{Ranges as Left}
-use Rattle.bounds.specs.Bounds.{excludes, Closed, Tightened, totalRows, ClosedTotal}
-use Rattle.bounds.specs.Bounds as bounds
-use Rattle.bounds.proofs.Excluded.{hopeless-excludes, total-but}
-use Rattle.bounds.proofs.Widest.{total-closed, vector-within, empty-none-total}
+use Rattle.bounds.specs.declared.Ranges.{Ranges}
+use Rattle.bounds.specs.Bounds.{sumOf, Some, Inside, Closed, Tightened, totalRows, ClosedTotal}
+use Rattle.bounds.proofs.Sums.{sum-grows}
+use Rattle.bounds.proofs.Excluded.{hopeless-excludes}
+use Rattle.bounds.proofs.Widest.{Same, total-closed, vector-within, empty-none-total}
 use Rattle.trails.specs.declared.Board.{Board}
 use Rattle.trails.specs.Board.{narrowOf, Watches}
-use Rattle.trails.proofs.Boards.{narrow-none}
-use Rattle.lengths.specs.Lengths.{sumOf, Ranges, Settled, Box, Above, NoneBelow, Before, Sooner, Order, First, tryOf}
-use Rattle.lengths.proofs.Laws.{leaf}
-use Rattle.lengths.proofs.Tried.{Tried, try-out, try-same}
-use Rattle.boxes.specs.Boxes.{Twins, Misses}
+use Rattle.trails.proofs.Boards.{smaller-watches, narrow-watches, narrow-none}
+use Rattle.boxes.specs.declared.Left.{Left}
+use Rattle.boxes.specs.declared.Best.{Best}
+use Rattle.boxes.specs.Vectors.{Settled, Box, tryOf}
+use Rattle.boxes.specs.Boxes.{Twins, Smaller, Shrinks, taken, Answered, Betters, Finds}
+use Rattle.boxes.proofs.Tried.{try-same, tries, try-out}
+use Rattle.boxes.proofs.Parts.{Parting, least, others, least-within, others-within, parts}
 
--- a sum of lengths that are nowhere greater is not greater
-pub sum-grows : (a b : List ℕ) → ((f : ℕ) → f < 6 → getD a f 0 ≤ getD b f 0) → sumOf a ≤ sumOf b
-unfolding sumOf
-sum-grows a b h = total-grows 6 6 (λ f. getD a f 0) (λ f. getD b f 0) (omega arith) h
+-- at most half as many equations as widths
+pub few-equations : (x w : List ℕ) → 2 * length (equations x w) ≤ length w
+unfolding equations
+few-equations x [] = omega arith
+few-equations x (m ∷ []) = omega arith
+few-equations x (m ∷ n ∷ w) = let h = few-equations (drop (m + n) x) w in omega arith
 
-sum-set : (n : List ℕ) (k x : ℕ) → k < 6 → length n ≡ 6 → sumOf (set n k x) + getD n k 0 ≡ sumOf n + x
-unfolding sumOf
-sum-set n k x h six =
-    let here : getD (set n k x) k 0 ≡ x = let l : k < length n = omega arith in getD-set-same n k x 0 l in
-    let e = total-but 6 k (λ f. getD (set n k x) f 0) (λ f. getD n f 0) h (λ i _ ne. getD-set-other n k i x 0 ne) in
-    rw here at e
+-- a smaller box
+pub inner : (lo hi l h : List ℕ) → Inside lo hi l h → (m : List ℕ) → Within l h m → Within lo hi m
+inner lo hi l h inside m c f k = let w = c f k in let i = inside f k in (omega (arith, w .0, i .0), omega (arith, w .1, i .1))
 
--- the same sum in `bounds`
-sum-same : (m : List ℕ) → bounds.sumOf m ≡ sumOf m
-unfolding bounds.sumOf sumOf
-sum-same m = refl
-
-module _ (try : List ℕ → Found) where
-  pub unordered : (C : List ℕ → Type 0) (O : List ℕ → List ℕ → Type 0) (r : Found) → First try C O r → First try C (Order false) r
-  unordered C O r f = record {
-    hit = λ q. let i = f .hit q in record { vector = i .vector; inside = i .inside; is = i .is; first = λ m c o. absurd o };
-    miss = f .miss;
+-- What is left of a box.
+module _ (es back : List Equation) (rows : List ℕ) (count : ℕ) (lo hi : List ℕ) (t u : ℕ) (b : Board) (twins : Twins es back lo hi) (watches : Watches es back lo hi b) (r : Ranges) (tightened : Tightened (ClosedTotal t u rows count) lo hi r) where
+  -- nothing is left of a range
+  pub emptied : r .ok ≡ false → (left : Left) → left .ok ≡ false → Shrinks es back rows count lo hi t u left
+  emptied e left not = record {
+    some = λ ok. never (sym not ∙ ok);
+    none = λ _ m c. by-test (tryOf es rows count m .ok)
+        (λ won. never (sym (empty-none-total t u rows count lo hi r tightened e m (c .0) (c .1) (c .2)) ∙ try-out es rows count m won .rows-hold))
+        (λ lost. lost);
   }
-
-  -- a class in which all that succeeds is in a smaller one
-  pub widened : (C D : List ℕ → Type 0) (r : Found) → ((m : List ℕ) → D m → C m) → ((m : List ℕ) → C m → try m .ok ≡ true → D m) → First try D (Order false) r → First try C (Order false) r
-  widened C D r out into f = record {
-    hit = λ q. let i = f .hit q in record { vector = i .vector; inside = out (i .vector) (i .inside); is = i .is; first = λ m c o. absurd o };
-    miss = λ q m c. by-test (try m .ok) (λ won. f .miss q m (into m c won)) (λ lost. lost);
-  }
-
-  -- one part has something; or it has nothing, and the other decides
-  pub one-hits : (C D : List ℕ → Type 0) (r : Found) → ((m : List ℕ) → D m → C m) → r .ok ≡ true → First try D (Order false) r → First try C (Order false) r
-  one-hits C D r out ok f = record {
-    hit = λ q. let i = f .hit q in record { vector = i .vector; inside = out (i .vector) (i .inside); is = i .is; first = λ m c o. absurd o };
-    miss = λ e. never (sym e ∙ ok);
-  }
-
-  pub other-decides : (C D E : List ℕ → Type 0) (r q : Found) → ((m : List ℕ) → E m → C m) → ((m : List ℕ) → C m → D m ⊎ E m) → r .ok ≡ false → First try D (Order false) r → First try E (Order false) q → First try C (Order false) q
-  other-decides C D E r q out part e f g = record {
-    hit = λ h. let i = g .hit h in record { vector = i .vector; inside = out (i .vector) (i .inside); is = i .is; first = λ m c o. absurd o };
-    miss = λ h m c. by h m (part m c);
-  }
-    where
-      by : q .ok ≡ false → (m : List ℕ) → D m ⊎ E m → try m .ok ≡ false
-      by h m (inl d) = f .miss e m d
-      by h m (inr d) = g .miss h m d
-
-  -- a box of one vector at most: any answer is the first
-  pub one-vector : (lo hi : List ℕ) (t u : ℕ) (r : Found) → Settled lo hi 6 → First try (Box lo hi t u) (Order false) r → First try (Box lo hi t u) Before r
-  one-vector lo hi t u r s f = record {
-    hit = λ q. let i = f .hit q in record {
-      vector = i .vector;
-      inside = i .inside;
-      is = i .is;
-      first = λ m c o. absurd (let e = s (o .at) (o .inside) in let a = c .0 (o .at) (o .inside) in let b = i .inside .0 (o .at) (o .inside) in let l = o .less in omega arith);
-    };
-    miss = f .miss;
-  }
-
-  -- all totals
-  pub all-totals : (lo hi : List ℕ) (u : ℕ) (r : Found) → u ≡ sumOf hi → First try (Box lo hi 0 u) (Order false) r → First try (Within lo hi) (Order false) r
-  all-totals lo hi u r e f =
-      widened (Within lo hi) (Box lo hi 0 u) r (λ m d. d .0)
-      (λ m c _. (c, omega arith, let high = sum-grows m hi (λ f h. c f h .1) in omega arith)) f
-
-  -- nothing of a total to u
-  pub none-to : (lo hi : List ℕ) (u t : ℕ) (r : Found) → t ≤ u + 1 → r .ok ≡ false → First try (Box lo hi 0 u) (Order false) r → NoneBelow try lo hi t
-  none-to lo hi u t r l e f m c k = f .miss e m (c, omega arith, omega arith)
-
--- A box that is parted by the length of field k.
-pub record Open (lo hi : List ℕ) (k : ℕ) : Type 0 where
-  pub inside : k < 6
-  pub six-lo : length lo ≡ 6
-  pub six-hi : length hi ≡ 6
-  pub ranges : Ranges lo hi
-  pub more : getD lo k 0 < getD hi k 0
-
-module _ {lo hi : List ℕ} {k : ℕ} (p : Open lo hi k) where
-  abbrev least : List ℕ
-  least = set hi k (getD lo k 0)
-
-  abbrev others : List ℕ
-  others = set lo k (getD lo k 0 + 1)
-
-  least-at : getD least k 0 ≡ getD lo k 0
-  least-at = let l : k < length hi = omega (arith, p) in getD-set-same hi k (getD lo k 0) 0 l
-
-  least-other : (f : ℕ) → (f ≡ k → ⊥) → getD least f 0 ≡ getD hi f 0
-  least-other f n = getD-set-other hi k f (getD lo k 0) 0 n
-
-  others-at : getD others k 0 ≡ getD lo k 0 + 1
-  others-at = let l : k < length lo = omega (arith, p) in getD-set-same lo k (getD lo k 0 + 1) 0 l
-
-  others-other : (f : ℕ) → (f ≡ k → ⊥) → getD others f 0 ≡ getD lo f 0
-  others-other f n = getD-set-other lo k f (getD lo k 0 + 1) 0 n
-
-  by-field : (P : ℕ → Type 0) (f : ℕ) → P k → ((f ≡ k → ⊥) → P f) → P f
-  by-field P f here there = go (ℕ-discrete f k)
-    where
-      go : Dec (f ≡ k) → P f
-      go (yes e) = rw e here
-      go (no n) = there n
-
-  pub least-ranges : Ranges lo least
-  least-ranges f h = by-field (λ f. getD lo f 0 ≤ getD least f 0) f (rw least-at (omega arith)) (λ n. rw (least-other f n) (p .ranges f h))
-
-  pub others-ranges : Ranges others hi
-  others-ranges f h = by-field (λ f. getD others f 0 ≤ getD hi f 0) f (let m = p .more in rw others-at (omega arith)) (λ n. rw (others-other f n) (p .ranges f h))
-
-  pub least-inside : (m : List ℕ) → Within lo least m → Within lo hi m
-  least-inside m c f h =
-      let w = c f h in
-      (w .0, by-field (λ f. getD m f 0 ≤ getD hi f 0) f (let v = c k (p .inside) in let more = p .more in let e = least-at in omega (arith, v .1)) (λ n. let e = least-other f n in omega (arith, w .1)))
-
-  pub others-inside : (m : List ℕ) → Within others hi m → Within lo hi m
-  others-inside m c f h =
-      let w = c f h in
-      (by-field (λ f. getD lo f 0 ≤ getD m f 0) f (let v = c k (p .inside) in let e = others-at in omega (arith, v .0)) (λ n. let e = others-other f n in omega (arith, w .0)), w .1)
-
-  pub parts : (t u : ℕ) (m : List ℕ) → Box lo hi t u m → Box lo least t u m ⊎ Box others hi t u m
-  parts t u m c = go (ℕ-discrete (getD m k 0) (getD lo k 0))
-    where
-      go : Dec (getD m k 0 ≡ getD lo k 0) → Box lo least t u m ⊎ Box others hi t u m
-      go (yes e) = inl ((λ f h. let w = c .0 f h in (w .0, by-field (λ f. getD m f 0 ≤ getD least f 0) f (let a = least-at in omega arith) (λ n. let a = least-other f n in omega (arith, w .1)))), c .1, c .2)
-      go (no ne) = inr ((λ f h. let w = c .0 f h in (by-field (λ f. getD others f 0 ≤ getD m f 0) f (let a = others-at in let v = c .0 k (p .inside) in omega (arith, v .0, ne)) (λ n. let a = others-other f n in omega (arith, w .0)), w .1)), c .1, c .2)
-
-  -- the ranges of both parts are shorter
-  pub least-falls : (sumOf least < sumOf hi) × (sumOf lo ≤ sumOf least)
-  least-falls =
-      let e = sum-set hi k (getD lo k 0) (p .inside) (p .six-hi) in
-      let m = p .more in
-      (omega arith, sum-grows lo least least-ranges)
-
-  pub others-falls : (sumOf lo < sumOf others) × (sumOf others ≤ sumOf hi)
-  others-falls =
-      let e = sum-set lo k (getD lo k 0 + 1) (p .inside) (p .six-lo) in
-      (omega arith, sum-grows others hi others-ranges)
-
--- the first part of a box that is parted at k, also where there is no other
-pub least-within : (lo hi : List ℕ) (k : ℕ) → k < 6 → length hi ≡ 6 → Ranges lo hi → (m : List ℕ) → Within lo (set hi k (getD lo k 0)) m → Within lo hi m
-least-within lo hi k h six r m c f l = go (ℕ-discrete f k)
-  where
-    go : Dec (f ≡ k) → (getD lo f 0 ≤ getD m f 0) × (getD m f 0 ≤ getD hi f 0)
-    go (yes e) =
-        let here : getD (set hi k (getD lo k 0)) k 0 ≡ getD lo k 0 = let n : k < length hi = omega arith in getD-set-same hi k (getD lo k 0) 0 n in
-        let w = c k h in
-        let q = r k h in
-        rw e (w .0, omega (arith, w .1))
-    go (no n) = let there = getD-set-other hi k f (getD lo k 0) 0 n in let w = c f l in (w .0, omega (arith, w .1))
-
--- Ranges shortened by the rows and by totals from t to u.
-module _ (es : List Equation) (rows : List ℕ) (count : ℕ) (lo hi : List ℕ) (t u : ℕ) (r : Left) (tightened : Tightened (ClosedTotal t u rows count) lo hi r) where
-  pub emptied : r .ok ≡ false → (m : List ℕ) → Box lo hi t u m → tryOf es rows count m .ok ≡ false
-  emptied e m c =
-      by-test (tryOf es rows count m .ok)
-      (λ won. let s = sum-same m in never (sym (empty-none-total t u rows count lo hi r tightened e m (c .0) (omega (arith, c .1)) (omega (arith, c .2))) ∙ try-out es rows count m won .rows-hold))
-      (λ lost. lost)
-
-  pub kept : (m : List ℕ) → Box lo hi t u m → tryOf es rows count m .ok ≡ true → Box (r .lo) (r .hi) t u m
-  kept m c won =
-      let s = sum-same m in
-      let closed = total-closed t u rows count m (omega (arith, c .1)) (omega (arith, c .2)) (try-out es rows count m won .rows-hold) in
-      (vector-within (ClosedTotal t u rows count) lo hi r tightened m (c .0) closed, c .1, c .2)
 
   module _ (some : r .ok ≡ true) where
-    pub tight-inside : (m : List ℕ) → Within (r .lo) (r .hi) m → Within lo hi m
-    tight-inside m c f h = let w = c f h in let i = tightened .found some .inside f h in (omega (arith, w .0, i .0), omega (arith, w .1, i .1))
+    kept : (m : List ℕ) → Box lo hi t u m → tryOf es rows count m .ok ≡ true → Within (r .lo) (r .hi) m
+    kept m c won = vector-within (ClosedTotal t u rows count) lo hi r tightened m (c .0) (total-closed t u rows count m (c .1) (c .2) (try-out es rows count m won .rows-hold))
 
-    pub tight-ranges : Ranges (r .lo) (r .hi)
-    tight-ranges = tightened .found some .closed .1 .some
+    inside : (m : List ℕ) → Within (r .lo) (r .hi) m → Within lo hi m
+    inside = inner lo hi (r .lo) (r .hi) (tightened .found some .inside)
 
-    pub tight-sums : (sumOf lo ≤ sumOf (r .lo)) × (sumOf (r .hi) ≤ sumOf hi)
-    tight-sums = (sum-grows lo (r .lo) (λ f h. tightened .found some .inside f h .0), sum-grows (r .hi) hi (λ f h. tightened .found some .inside f h .1))
+    tight : Watches es back (r .lo) (r .hi) b
+    tight = smaller-watches es back lo hi (r .lo) (r .hi) b inside watches
 
--- where the walks fail, nothing succeeds
-pub walked-none : (es back : List Equation) (rows : List ℕ) (count : ℕ) (lo hi : List ℕ) (b : Board) → Watches es back lo hi b → Twins es back lo hi → narrowOf es back b lo hi .ok ≡ false → (m : List ℕ) → Within lo hi m → tryOf es rows count m .ok ≡ false
-walked-none es back rows count lo hi b w twins e m c =
-    by-test (tryOf es rows count m .ok)
-    (λ won. never (sym (narrow-none es back lo hi b w e m c (twins m c)) ∙ try-out es rows count m won .attempted))
-    (λ lost. lost)
+    -- the trails are walked
+    pub walked : (c : Board) → c ≡ narrowOf es back b (r .lo) (r .hi) → Shrinks es back rows count lo hi t u (record { ok = c .ok; lo = r .lo; hi = r .hi; board = c })
+    walked c is = record {
+      some = λ ok. record {
+        inside = tightened .found some .inside;
+        closed = tightened .found some .closed;
+        kept = kept;
+        watches = subst (Watches es back (r .lo) (r .hi)) (sym is) (narrow-watches es back (r .lo) (r .hi) b tight (ap (λ (z : Board). z .ok) (sym is) ∙ ok));
+      };
+      none = λ not m d. by-test (tryOf es rows count m .ok)
+          (λ won.
+          let i = kept m d won in
+          never (sym (narrow-none es back (r .lo) (r .hi) b tight (ap (λ (z : Board). z .ok) (sym is) ∙ not) m i (twins m (inside m i))) ∙ try-out es rows count m won .attempted))
+          (λ lost. lost);
+    }
 
 -- Ranges of one length each, of which no row excludes an end: the rows hold there.
 closed-holds : (rows : List ℕ) (count : ℕ) (lo hi : List ℕ) → Settled lo hi 6 → Closed rows count lo hi → rowsHold rows count lo ≡ true
@@ -229,18 +94,114 @@ total-told t u m h =
     let two = leb-true (total 6 (λ f. 0 * getD m f 0) + t) (total 6 (λ f. 1 * getD m f 0) + 0) (each 1 (omega arith)) in
     (omega arith, omega arith)
 
-tries : (es : List Equation) (rows : List ℕ) (count : ℕ) (lo : List ℕ) → rowsHold rows count lo ≡ true → attemptOf es lo ≡ tryOf es rows count lo
-unfolding tryOf
-tries es rows count lo h = rw h
+-- nothing that is asked for succeeds: the best answer stays
+pub stays : (try : List ℕ → Found) (lo hi : List ℕ) (t : ℕ) (shortest : Bool) (best : Best)
+    → ((m : List ℕ) → Within lo hi m → t ≤ sumOf m → sumOf m < best .below → try m .ok ≡ false) → Betters try lo hi t shortest best best
+stays try lo hi t shortest best none = record { lower = omega arith; none = none; outcome = inl refl }
 
-pub one-left : (es : List Equation) (rows : List ℕ) (count : ℕ) (lo hi : List ℕ) (t u : ℕ) (r : Found) → Settled lo hi 6 → ClosedTotal t u rows count lo hi → r ≡ attemptOf es lo → First (tryOf es rows count) (Box lo hi t u) (Order false) r
-one-left es rows count lo hi t u r s c e =
-    unordered (tryOf es rows count) (Box lo hi t u) Before r
-    (leaf (tryOf es rows count) (try-same es rows count) lo hi t u s (total-told t u lo (closed-holds (totalRows t u) 2 lo hi s (c .0))) r (e ∙ tries es rows count lo (closed-holds rows count lo hi s (c .1))))
+module _ (es back : List Equation) (rows : List ℕ) (count : ℕ) (lo hi : List ℕ) (t : ℕ) (best : Best) (shortest : Bool) where
+  abbrev try : List ℕ → Found
+  try = tryOf es rows count
 
--- at most half as many equations as widths
-pub few-equations : (x w : List ℕ) → 2 * length (equations x w) ≤ length w
-unfolding equations
-few-equations x [] = omega arith
-few-equations x (m ∷ []) = omega arith
-few-equations x (m ∷ n ∷ w) = let h = few-equations (drop (m + n) x) w in omega arith
+  -- no totals are asked for
+  pub unasked : best .below ≤ t → Betters try lo hi t shortest best best
+  unasked less = stays try lo hi t shortest best (λ m c low high. absurd (omega arith))
+
+  module _ (asked : t < best .below) (left : Left) (shrinks : Shrinks es back rows count lo hi t (best .below - 1) left) where
+    -- nothing is left
+    pub cut : left .ok ≡ false → Betters try lo hi t shortest best best
+    cut e = stays try lo hi t shortest best (λ m c low high. shrinks .none e m (c, low, omega arith))
+
+    module _ (ok : left .ok ≡ true) where
+      smaller : Smaller es back rows count lo hi t (best .below - 1) left
+      smaller = shrinks .some ok
+
+      -- what succeeds is in the smaller box
+      back-in : (m : List ℕ) → Within lo hi m → t ≤ sumOf m → sumOf m < best .below → (Within (left .lo) (left .hi) m → try m .ok ≡ false) → try m .ok ≡ false
+      back-in m c low high go = by-test (try m .ok) (λ won. go (smaller .kept m (c, low, omega arith) won)) (λ lost. lost)
+
+      -- one vector is left
+      module _ (s : Settled (left .lo) (left .hi) 6) where
+        abbrev n : List ℕ
+        n = left .lo
+
+        same : (m : List ℕ) → Within n (left .hi) m → Same m n
+        same m c f h = let w = c f h in let q = s f h in omega (arith, w .0, w .1)
+
+        totals : (t ≤ sumOf n) × (sumOf n ≤ best .below - 1)
+        totals = total-told t (best .below - 1) n (closed-holds (totalRows t (best .below - 1)) 2 n (left .hi) s (smaller .closed .0))
+
+        tried : attemptOf es n ≡ try n
+        tried = tries es rows count n (closed-holds rows count n (left .hi) s (smaller .closed .1))
+
+        failing : attemptOf es n .ok ≡ false → (m : List ℕ) → Within n (left .hi) m → try m .ok ≡ false
+        failing e m c = ap (λ (z : Found). z .ok) (try-same es rows count m n (same m c) ∙ sym tried) ∙ e
+
+        told : attemptOf es n .ok ≡ true → Betters try lo hi t shortest best (record { found = attemptOf es n; below = pick shortest (sumOf n) 0 })
+        told e = record {
+          lower = by-test shortest (λ y. rw y (omega (arith, totals .1))) (λ y. rw y (omega arith));
+          none = λ m c low high. by-test shortest
+              (λ y.
+              let less : sumOf m < sumOf n = rw y at high in
+              back-in m c low (omega (arith, totals .1)) (λ d. absurd (let g = sum-grows n m (λ f h. d f h .0) in omega arith)))
+              (λ y. let less : sumOf m < 0 = rw y at high in absurd (omega arith));
+          outcome = inr (record {
+            ok = e;
+            vector = n;
+            inside = inner lo hi n (left .hi) (smaller .inside) n (λ f h. let q = s f h in (omega arith, omega arith));
+            is = tried;
+            totals = (totals .0, omega (arith, totals .1));
+            told = λ y. rw y refl;
+          });
+        }
+
+        pub at-one : (r : Best) → r ≡ taken (attemptOf es n) (sumOf n) best shortest → Betters try lo hi t shortest best r
+        at-one r is = subst (Betters try lo hi t shortest best) (sym is)
+            (pick-ind (Betters try lo hi t shortest best) (attemptOf es n .ok) told
+            (λ e. stays try lo hi t shortest best (λ m c low high. back-in m c low high (failing e m))))
+
+      -- the box is parted
+      pub parted : (k : ℕ) (p : Parting (left .lo) (left .hi) k) (one two : Best) → Betters try (left .lo) (least p) t shortest best one → Betters try (others p) (left .hi) t shortest one two → Betters try lo hi t shortest best two
+      parted k p one two f g = record {
+        lower = omega (arith, f .lower, g .lower);
+        none = λ m c low high. back-in m c low (omega (arith, f .lower, g .lower)) (λ d. by m low high (parts p m d));
+        outcome = both (f .outcome) (g .outcome);
+      }
+        where
+          by : (m : List ℕ) → t ≤ sumOf m → sumOf m < two .below → Within (left .lo) (least p) m ⊎ Within (others p) (left .hi) m → try m .ok ≡ false
+          by m low high (inl d) = f .none m d low (omega (arith, g .lower))
+          by m low high (inr d) = g .none m d low high
+
+          out : (m : List ℕ) → Within (left .lo) (left .hi) m → Within lo hi m
+          out = inner lo hi (left .lo) (left .hi) (smaller .inside)
+
+          wider : (r : Best) (l h : List ℕ) (u : ℕ) → u ≤ best .below → ((m : List ℕ) → Within l h m → Within lo hi m) → Answered try l h t u shortest r → Answered try lo hi t (best .below) shortest r
+          wider r l h u less to a = record {
+            ok = a .ok;
+            vector = a .vector;
+            inside = to (a .vector) (a .inside);
+            is = a .is;
+            totals = (a .totals .0, omega (arith, a .totals .1));
+            told = a .told;
+          }
+
+          both : (one ≡ best) ⊎ Answered try (left .lo) (least p) t (best .below) shortest one → (two ≡ one) ⊎ Answered try (others p) (left .hi) t (one .below) shortest two → (two ≡ best) ⊎ Answered try lo hi t (best .below) shortest two
+          both (inl e) (inl q) = inl (q ∙ e)
+          both (inr a) (inl q) = inr (subst (Answered try lo hi t (best .below) shortest) (sym q) (wider one (left .lo) (least p) (best .below) (omega arith) (λ m c. out m (least-within p m c)) a))
+          both x (inr a) = inr (wider two (others p) (left .hi) (one .below) (f .lower) (λ m c. out m (others-within p m c)) a)
+
+-- from no answer at all
+pub begun : (try : List ℕ → Found) (lo hi : List ℕ) (t u : ℕ) (shortest : Bool) (start r : Best) → start .found .ok ≡ false → start .below ≡ u → Betters try lo hi t shortest start r → Finds try lo hi t u shortest r
+begun try lo hi t u shortest start r not is b = record {
+  none = b .none;
+  missed = λ e. by-missed (b .outcome) e;
+  answered = λ e. by-answered (b .outcome) e;
+}
+  where
+    by-missed : (r ≡ start) ⊎ Answered try lo hi t (start .below) shortest r → r .found .ok ≡ false → r .below ≡ u
+    by-missed (inl q) e = ap (λ (z : Best). z .below) q ∙ is
+    by-missed (inr a) e = never (sym e ∙ a .ok)
+
+    by-answered : (r ≡ start) ⊎ Answered try lo hi t (start .below) shortest r → r .found .ok ≡ true → Answered try lo hi t u shortest r
+    by-answered (inl q) e = never (sym not ∙ ap (λ (z : Best). z .found .ok) (sym q) ∙ e)
+    by-answered (inr a) e = subst (λ (n : ℕ). Answered try lo hi t n shortest r) is a

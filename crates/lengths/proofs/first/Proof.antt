@@ -1,28 +1,46 @@
 -- `lengths::first` meets its contract. Assumes nothing.
 use mathlib.Core.Path.{sym, subst}
-use mathlib.Core.Bool.{Bool}
+use mathlib.Core.Bool.{Bool, false}
+use Prim.Native.Nat.{_+_}
+use native.Mathlib.Omega.{arith}
 use borrow.Author.Needs.{needs}
-use Rattle.inequalities.specs.Rows.{Within}
 use Rattle.attempt.specs.Attempt.{equations}
-use Rattle.lengths.specs.Lengths.{Order, First, tryOf}
+use Rattle.inequalities.specs.Rows.{Within}
+use Rattle.boxes.specs.Vectors.{Order, First, tryOf}
+use Rattle.lengths.proofs.Laws.{all-found}
 use Rattle.lengths.proofs.first.Statement.{statement}
 use Rattle.lengths.proofs.first.Tie as tie
+
+uses-requires : tie.Need-uses-requires
+uses-requires c κs = search needs
 
 least-requires : tie.Need-least-requires
 least-requires c κs = search needs
 
 returns : tie.Need-returns
 returns c =
-    let a = c .before .before .before .before .before .args in
+    let a = c .before .before .before .before .before .before .before .args in
     subst (λ (b : Bool). First (tryOf (equations (a .x .now) (a .w .now)) (a .rows .now) (a .count)) (Within (a .lo) (a .hi)) (Order b) (c .least .result)) (sym (c .before .if1 .taken)) (c .least .ensures)
 
-staged-requires : tie.Need-staged-requires
-staged-requires c κs = search needs
+sum-requires : tie.Need-sum-requires
+sum-requires c κs = search needs
+
+add-seek : tie.Need-add-seek
+add-seek c = search needs
+
+seek-requires : tie.Need-seek-requires
+seek-requires c κs = search needs
 
 returns-2 : tie.Need-returns-2
 returns-2 c =
-    let a = c .before .before .before .before .before .before .args in
-    subst (λ (b : Bool). First (tryOf (equations (a .x .now) (a .w .now)) (a .rows .now) (a .count)) (Within (a .lo) (a .hi)) (Order b) (c .before .staged .result .found)) (sym (c .before .before .if1 .left)) (c .before .staged .ensures .some)
+    let d = c .before in
+    let at = d .before in
+    let a = at .before .before .before .before .before .before .before .args in
+    let total = at .sum .ensures .0 in
+    let all = all-found (tryOf (equations (a .x .now) (a .w .now)) (a .rows .now) (a .count)) (a .lo) (a .hi) (at .sum .result + 1) (omega arith) false (d .seek .result) (d .seek .ensures) in
+    subst (λ (b : Bool). First (tryOf (equations (a .x .now) (a .w .now)) (a .rows .now) (a .count)) (Within (a .lo) (a .hi)) (Order b) (d .seek .result .found)) (sym (at .before .if1 .left)) all
 
 pub first-spec : {M : Type 1} → statement M
-first-spec = tie.close (tie.spec least-requires returns staged-requires returns-2)
+first-spec =
+    tie.close
+    (tie.spec uses-requires least-requires returns sum-requires add-seek seek-requires returns-2)

@@ -1,42 +1,57 @@
--- `lengths::least` meets its contract: where the whole box has nothing there is nothing, and else nothing of a total below t succeeds. Assumes
--- nothing.
+-- `lengths::least` meets its contract: below the least total nothing succeeds, and of those of that total the first is taken. Assumes nothing.
+use mathlib.Core.Path.{sym, _∙_}
+use mathlib.Core.Bool.{true}
+use mathlib.Core.List.{List}
+use Prim.Native.Nat.{ℕ, _+_, _≤_}
+use native.Mathlib.Omega.{arith}
 use borrow.Author.Needs.{needs}
-use borrow.Author.Tests.{not-true}
+use borrow.Author.Tests.{not-true, not-false}
+use Rattle.model.proofs.Lists.{never}
+use Rattle.unification.specs.declared.Found.{Found}
 use Rattle.attempt.specs.Attempt.{equations}
-use Rattle.inequalities.specs.Rows.{Within}
-use Rattle.lengths.specs.Lengths.{Sooner, tryOf}
-use Rattle.lengths.proofs.Laws.{nothing, above-all}
+use Rattle.boxes.specs.Vectors.{Sooner, tryOf}
+use Rattle.lengths.proofs.Laws.{all-missed, short-total, shortest-first}
 use Rattle.lengths.proofs.least.Statement.{statement}
 use Rattle.lengths.proofs.least.Tie as tie
 
-staged-requires : tie.Need-staged-requires
-staged-requires c κs = search needs
+-- the start, from the question for the least total, and what is tried at a vector
+abbrev start : tie.After-seek → tie.Start
+start c = c .before .before .before .before .before .before
+
+abbrev try : tie.Start → List ℕ → Found
+try s = tryOf (equations (s .args .x .now) (s .args .w .now)) (s .args .rows .now) (s .args .count)
+
+sum-requires : tie.Need-sum-requires
+sum-requires c κs = search needs
+
+add-seek : tie.Need-add-seek
+add-seek c = search needs
+
+seek-requires : tie.Need-seek-requires
+seek-requires c κs = search needs
 
 returns : tie.Need-returns
 returns c =
-    let tried = c .before .before .before in
-    let a = tried .before .before .before .before .args in
-    let none = not-true _ (c .if1 .taken) in
-    nothing (tryOf (equations (a .x .now) (a .w .now)) (a .rows .now) (a .count)) (Within (a .lo) (a .hi)) Sooner (tried .staged .result .found) none (tried .staged .ensures .some .miss none)
+    let d = c .before .before .before in
+    let s = start d in
+    let total = d .before .sum .ensures .0 in
+    all-missed (try s) (s .args .lo) (s .args .hi) (d .before .sum .result + 1) (omega arith) true (d .seek .result) (d .seek .ensures) Sooner (not-true _ (c .if1 .taken))
 
-letters-requires : tie.Need-letters-requires
-letters-requires c κs = search needs
-
-descend-requires : tie.Need-descend-requires
-descend-requires c κs =
-    let tried = c .before .before .before .before .before in
-    let pre = tried .before .before .before .before .pre in
-    (pre .0, pre .1, pre .2, pre .3, tried .staged .ensures .below)
-
-from-total-requires : tie.Need-from-total-requires
-from-total-requires c κs = search needs
+settle-requires : tie.Need-settle-requires
+settle-requires c κs =
+    let d = c .before .before .before in
+    let s = start d in
+    let ok = not-false _ (c .if1 .left) in
+    let few = d .before .sum .ensures .1 in
+    (s .pre .0, s .pre .1, s .pre .2, short-total (try s) (s .args .lo) (s .args .hi) (d .before .sum .result + 1) (d .seek .result) (d .seek .ensures) ok (omega arith), omega arith, (λ f l. absurd (omega arith)), λ e. never (sym e ∙ ok))
 
 returns-2 : tie.Need-returns-2
 returns-2 c =
-    let descended = c .before in
-    let a = descended .before .before .before .before .before .before .before .before .before .before .args in
-    above-all (tryOf (equations (a .x .now) (a .w .now)) (a .rows .now) (a .count)) (a .lo) (a .hi) (descended .descend .result) (descended .descend .ensures)
-    (c .from-total .result) (c .from-total .ensures)
+    let at = c .before in
+    let d = at .before .before .before in
+    let s = start d in
+    shortest-first (try s) (s .args .lo) (s .args .hi) (d .before .sum .result + 1) (d .seek .result) (d .seek .ensures) (not-false _ (at .if1 .left)) (c .settle .result) (c .settle .ensures)
 
 pub least-spec : {M : Type 1} → statement M
-least-spec = tie.close (tie.spec staged-requires returns letters-requires descend-requires from-total-requires returns-2)
+least-spec =
+    tie.close (tie.spec sum-requires add-seek seek-requires returns settle-requires returns-2)
