@@ -1,2 +1,1 @@
-pub mod Narrow
-mod Apart
+mod Asked

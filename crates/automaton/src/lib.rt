@@ -1,28 +1,16 @@
-// The search for a solution of a sheet (document 01: a clash). Narrower questions come first, which `question` answers fast: where one of them has
-// no answer there is no solution. What is handed out has passed the check of `substitution`.
-mod choice;
-mod ends;
-mod narrowing;
-
-use choice::PARTS;
-use choice::among;
-use choice::companions;
-use choice::marks;
-use choice::used;
-use ends::some_ends_differ;
+// Searching a sheet for a solution: letters are counted first, which tells many sheets apart at once; then the whole sheet is one question, and what is
+// found is handed over once it has passed the check.
 use fields::FIELD_BYTES;
-use inequalities::Marks;
-use narrowing::differing;
-use narrowing::narrow;
+use fields::Lengths;
+use question::Ask;
 use unification::Found;
 ghost use mathlib.Core.Path.{_≡_};
-ghost use mathlib.Core.Bool.{false};
-ghost use Prim.Native.Nat.{_*_, _<_, _≤_};
-ghost use lib.ListN.{length};
-ghost use Rattle.model.specs.Sheet.{sheetOf};
+ghost use Prim.Native.Nat.{ℕ, _*_, _<_, _≤_};
+ghost use lib.ListN.{length, getD};
+ghost use Rattle.model.specs.Sheet.{sheetOf, limit};
 ghost use Rattle.model.specs.Range.{Admitted};
 ghost use Rattle.calls.specs.Calls.{Searches};
-ghost use Rattle.automaton.specs.Narrow.{Unsolvable, Settles};
+ghost use Rattle.automaton.specs.Whole.{Whole, Settles};
 ghost use Rattle.automaton.specs.Answer.{numberOf, searched};
 
 // What searching refuses, by document 01's numbers: what reading a sheet refuses, and 27.
@@ -48,36 +36,32 @@ pub fn number(refusal: Refusal) -> u8
     }
 }
 
-// Whether some of the equations have a solution by themselves, with the constraints that ask for no other fields; or whether they ask for as many
-// fields as all do, so that it is not worth a search.
-fn part_solvable(sheet: &[u8], equations: Marks, fields: usize) -> bool
+// The limits of all fields, 0 for fields that the sheet does not have.
+fn limits(sheet: &[u8]) -> Lengths
     requires { ⌜ Admitted (now sheet) ⌝ }
-    ensures { λ r. ⌜ (r ≡ false → Unsolvable (sheetOf (now (sheet .entry)))) ⌝ }
+    ensures { λ r. ⌜ ((f : ℕ) → f < 6 → getD r f 0 ≡ limit (sheetOf (now (sheet .entry))) f) ⌝ }
 {
-    let ask = narrow(sheet, equations, companions(sheet, equations));
-    let hi = ask.hi;
-    if fields <= used(hi) {
-        return true;
+    let fields = shape::fields(sheet);
+    let mut n: Lengths = [0; 6];
+    let mut f: usize = 0;
+    while f < fields {
+        n[f] = parts::limit(sheet, f);
+        f += 1;
     }
-    question::find(sheet, ask, false).ok
+    n
 }
 
-// Whether each part of the marked equations is solvable, as far as that is asked.
-fn parts_solvable(sheet: &[u8], equations: Marks, fields: usize) -> bool
+// The question of the whole sheet.
+fn whole(sheet: &[u8]) -> Ask
     requires { ⌜ Admitted (now sheet) ⌝ }
-    ensures { λ r. ⌜ (r ≡ false → Unsolvable (sheetOf (now (sheet .entry)))) ⌝ }
+    ensures { λ r. ⌜ Whole (sheetOf (now (sheet .entry))) r ⌝ }
 {
-    let mut i: usize = 0;
-    while i < 14 {
-        let part = marks(PARTS[i]);
-        if among(part, equations) {
-            if !part_solvable(sheet, part, fields) {
-                return false;
-            }
-        }
-        i += 1;
+    Ask {
+        lo: [0; 6],
+        hi: limits(sheet),
+        equations: [true; 4],
+        constraints: [true; 4],
     }
-    true
 }
 
 // A solution of an accepted sheet, where there is one.
@@ -85,15 +69,10 @@ fn solve(sheet: &[u8]) -> Found
     requires { ⌜ Admitted (now sheet) ⌝ }
     ensures { λ r. ⌜ Settles (now (sheet .entry)) r ⌝ }
 {
-    if some_ends_differ(sheet) {
-        return lengths::none();
+    if balance::some_lopsided(sheet) {
+        return boxes::none();
     }
-    let equations = differing(sheet);
-    let ask = narrow(sheet, equations, [true; 4]);
-    let hi = ask.hi;
-    if !parts_solvable(sheet, equations, used(hi)) {
-        return lengths::none();
-    }
+    let ask = whole(sheet);
     question::find(sheet, ask, true)
 }
 

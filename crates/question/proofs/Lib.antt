@@ -1,4 +1,4 @@
 pub mod Words
 pub mod Instances
-pub mod Flat
 pub mod Right
+pub mod Twins

@@ -22,14 +22,14 @@ use Rattle.attempt.proofs.Right.{Instance, attempt-sound, attempt-complete}
 use Rattle.inequalities.specs.Asked.{asked, lengthsOf, sidesAgree, lengthsAgree}
 use Rattle.inequalities.specs.Rows.{Within, rowsHold}
 use Rattle.inequalities.proofs.Asked.{asked-in}
-use Rattle.lengths.specs.Lengths.{First, tryOf}
-use Rattle.lengths.proofs.Tried.{rows-same, try-out, try-in}
+use Rattle.boxes.specs.Vectors.{First, tryOf}
+use Rattle.boxes.proofs.Tried.{rows-same, try-out, try-in}
+use Rattle.trails.specs.Mirror.{sidesOf}
+use Rattle.sides.proofs.Flat.{side-letters}
 use Rattle.question.specs.declared.Ask.{Ask}
 use Rattle.question.specs.Ask.{Asking, Answers, Finds}
-use Rattle.question.specs.Sides.{sidesOf}
 use Rattle.question.proofs.Words.{solves-in, solves-out}
 use Rattle.question.proofs.Instances.{instance-held, instance-lengths, reader, memory-refines, memory-held, memory-means}
-use Rattle.question.proofs.Flat.{side-letters}
 
 -- Lengths that agree, for what holds: sides of the same word have the same length.
 agrees-in : (s : Sheet) (a : Ask) (g : Substitution) → Answers s a g → lengthsAgree s (a .equations) (a .constraints) g ≡ true

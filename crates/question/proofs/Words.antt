@@ -27,7 +27,7 @@ use Rattle.unification.proofs.Laws.{value-place, value-letter}
 use Rattle.walk.specs.Walk.{word}
 use Rattle.walk.proofs.Right.{word-blank, word-solid}
 use Rattle.attempt.specs.Attempt.{Solves}
-use Rattle.question.specs.Sides.{templateCells, sidesOf}
+use Rattle.trails.specs.Mirror.{templateCells, sidesOf}
 
 -- inside a list it plays no part what would stand past its end
 any-default : (xs : List ℕ) (i d e : ℕ) → i < length xs → getD xs i d ≡ getD xs i e

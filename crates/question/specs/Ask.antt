@@ -11,12 +11,12 @@ use Rattle.fields.specs.Memory.{meaning, Held}
 use Rattle.unification.specs.declared.Found.{Found}
 use Rattle.inequalities.specs.Asked.{asked, lengthsOf}
 use Rattle.inequalities.specs.Rows.{Within}
-use Rattle.lengths.specs.Lengths.{Ranges}
+use Rattle.bounds.specs.Bounds.{Some}
 use Rattle.question.specs.declared.Ask.{Ask}
 
 -- ranges that are not empty, within the limits (0 for fields that the sheet does not have)
 pub record Asking (s : Sheet) (a : Ask) : Type 0 where
-  pub ranges : Ranges (a .lo) (a .hi)
+  pub ranges : Some (a .lo) (a .hi)
   pub limited : (f : ℕ) → f < 6 → getD (a .hi) f 0 ≤ limit s f
 
 -- g is a legal substitution with lengths in the ranges, under which the asked equations and constraints hold

@@ -1,7 +1,5 @@
-// A question to the search, and an answer where there is one: lengths in ranges, and some of a sheet's equations and constraints. Vectors of
-// lengths go from `lengths`, and at each `attempt` walks the equations, as document 000's automaton does under fixed lengths.
-mod sides;
-
+// A question to the search, and an answer where there is one: lengths in ranges, and some of a sheet's equations and constraints. `lengths` orders
+// lengths, with walks of the equations from both ends, and at each vector of lengths `attempt` walks them, as document 000's automaton does under fixed lengths.
 use fields::Lengths;
 use inequalities::Marks;
 use inequalities::ROOM;
@@ -20,27 +18,34 @@ pub struct Ask {
     pub constraints: Marks,
 }
 
-// How many cells and how many widths there are.
-pub struct Sizes {
-    pub cells: usize,
-    pub widths: usize,
-}
-
 // A substitution that answers what is asked, where there is one: a shortest one, if that matters.
 pub fn find(sheet: &[u8], ask: Ask, shortest: bool) -> Found
     requires { ⌜ Admitted (now sheet) × Asking (sheetOf (now sheet)) ask ⌝ }
     ensures { λ r. ⌜ Finds (now (sheet .entry)) ask r ⌝ }
 {
     let mut x = [0u8; CELLS];
+    let mut y = [0u8; CELLS];
     let mut w = [0u8; WIDTHS];
     let mut rows = [0u16; ROOM];
     let equations = ask.equations;
     let constraints = ask.constraints;
-    let sizes = sides::put_equations(&mut x, &mut w, sheet, equations);
+    let ahead = sides::put_equations(&mut x, &mut w, sheet, equations, false);
+    // the reversed equations are as wide: w stays as it is
+    let behind = sides::put_equations(&mut y, &mut w, sheet, equations, true);
     let count = gathering::gather(sheet, equations, constraints, &mut rows);
-    let cells = sizes.cells;
-    let widths = sizes.widths;
+    let cells = ahead.cells;
+    let turned = behind.cells;
+    let widths = behind.widths;
     let lo = ask.lo;
     let hi = ask.hi;
-    lengths::first(&x[..cells], &w[..widths], &rows, count, lo, hi, shortest)
+    lengths::first(
+        &x[..cells],
+        &y[..turned],
+        &w[..widths],
+        &rows,
+        count,
+        lo,
+        hi,
+        shortest,
+    )
 }

@@ -1,6 +1,7 @@
--- `question::find` meets its contract: the asked equations are expanded, the rows say what is asked of the lengths, and the first vector at
--- which both hold is an answer. Assumes nothing.
-use mathlib.Core.Path.{_≡_, sym, subst}
+-- `question::find` meets its contract: the asked equations are expanded, and reversed too, the rows say what is asked of the lengths, and the first vector
+-- at which both hold is an answer. Assumes nothing.
+use mathlib.Core.Path.{_≡_, sym, subst, _∙_}
+use mathlib.Core.Bool.{true, false}
 use mathlib.Core.List.{List, map}
 use Prim.Native.Nat.{ℕ, _≤_}
 use native.Mathlib.Omega.{arith}
@@ -8,7 +9,7 @@ use lib.ListN.{length, take}
 use lib.Seq.{length-take-le}
 use borrow.Author.Needs.{needs}
 use Rattle.model.specs.Lists.{All}
-use Rattle.model.specs.Sheet.{sheetOf}
+use Rattle.model.specs.Sheet.{Sheet, sheetOf}
 use Rattle.model.specs.Sheet as sheet
 use Rattle.model.specs.Range.{EquationIn}
 use Rattle.walk.specs.Walk.{Cells}
@@ -17,34 +18,76 @@ use Rattle.inequalities.specs.Asked.{asked}
 use Rattle.inequalities.specs.Rows.{Within}
 use Rattle.inequalities.proofs.Asked.{asked-in}
 use Rattle.inequalities.proofs.Agreement.{gathered-agrees}
-use Rattle.lengths.specs.Lengths.{Order, First, tryOf}
-use Rattle.question.specs.declared.Sizes.{Sizes}
-use Rattle.question.specs.Sides.{sidesOf, Expanded}
-use Rattle.question.proofs.Flat.{equations-again, total-widths, flat-cells}
+use Rattle.boxes.specs.Vectors.{Order, First, tryOf}
+use Rattle.trails.specs.Mirror.{sidesOf, mirrorSides}
+use Rattle.sides.specs.Sides.{flatCells, widths}
+use Rattle.sides.proofs.Flat.{equations-again, total-widths, facing-widths, flat-cells}
 use Rattle.question.proofs.Right.{first-finds}
+use Rattle.question.proofs.Twins.{asked-twins}
 use Rattle.question.proofs.find.Statement.{statement}
 use Rattle.question.proofs.find.Tie as tie
 
 -- what is lent of expanded equations
-module _ (es : List Equation) (x w : List ℕ) (r : Sizes) (there : Expanded es x w r) where
-  lent-equations : equations (take (r .cells) x) (take (r .widths) w) ≡ es
-  lent-equations = rw (there .cells-are, there .widths-are) (equations-again es)
+module _ (es : List Equation) (x w : List ℕ) (cells-are : x ≡ flatCells es) (widths-are : w ≡ widths es) where
+  lent-equations : equations x w ≡ es
+  lent-equations = rw (cells-are, widths-are) (equations-again es)
 
-  lent-room : cellTotal (take (r .widths) w) ≤ length (take (r .cells) x)
-  lent-room = let e = total-widths es in rw (there .cells-are, there .widths-are) (omega arith)
+  lent-room : cellTotal w ≤ length x
+  lent-room = let e = total-widths es in rw (cells-are, widths-are) (omega arith)
 
--- the start, from the call that expands, and the equations that it expands
-abbrev start : tie.After-put-equations → tie.Start
-start c = c .before .before .before .before .before .before
+-- The places of the second call that expands: of the first one, of the start; what is asked.
+module _ (c : tie.After-put-equations2) where
+  abbrev ahead : tie.After-put-equations
+  ahead = c .before .before .before .before .before
 
-abbrev questions : tie.After-put-equations → List sheet.Equation
-questions c = asked (start c .args .ask .equations) (sheetOf (start c .args .sheet .now) .equations)
+  abbrev start : tie.Start
+  start = ahead .before .before .before .before .before .before
 
-abbrev es : tie.After-put-equations → List Equation
-es c = map (sidesOf (sheetOf (start c .args .sheet .now))) (questions c)
+  abbrev s : Sheet
+  s = sheetOf (start .args .sheet .now)
 
-in-range : (c : tie.After-put-equations) → All (EquationIn (length (sheetOf (start c .args .sheet .now) .letters)) (sheetOf (start c .args .sheet .now) .limits)) (questions c)
-in-range c = asked-in _ (start c .args .ask .equations) (sheetOf (start c .args .sheet .now) .equations) (start c .pre .0 .1 .equations-in)
+  abbrev questions : List sheet.Equation
+  questions = asked (start .args .ask .equations) (s .equations)
+
+  abbrev es : List Equation
+  es = map (sidesOf s) questions
+
+  abbrev back : List Equation
+  back = map (mirrorSides s) questions
+
+  -- what is lent
+  abbrev x : List ℕ
+  x = take (ahead .put-equations .result .cells) (ahead .put-equations .last .0)
+
+  abbrev y : List ℕ
+  y = take (c .put-equations2 .result .cells) (c .put-equations2 .last .0)
+
+  abbrev w : List ℕ
+  w = take (c .put-equations2 .result .widths) (c .put-equations2 .last .1 .0)
+
+  in-range : All (EquationIn (length (s .letters)) (s .limits)) questions
+  in-range = asked-in _ (start .args .ask .equations) (s .equations) (start .pre .0 .1 .equations-in)
+
+  cells-ahead : x ≡ flatCells es
+  cells-ahead = ahead .put-equations .ensures .cells-are
+
+  cells-behind : y ≡ flatCells back
+  cells-behind = c .put-equations2 .ensures .cells-are
+
+  widths-behind : w ≡ widths back
+  widths-behind = c .put-equations2 .ensures .widths-are
+
+  widths-ahead : w ≡ widths es
+  widths-ahead = widths-behind ∙ facing-widths s true questions
+
+  equations-ahead : equations x w ≡ es
+  equations-ahead = lent-equations es x w cells-ahead widths-ahead
+
+  equations-behind : equations y w ≡ back
+  equations-behind = lent-equations back y w cells-behind widths-behind
+
+  few-widths : length w ≡ c .put-equations2 .result .widths
+  few-widths = length-take-le (c .put-equations2 .result .widths) (c .put-equations2 .last .1 .0) (omega (arith, c .put-equations2 .kept .1 .0, c .put-equations2 .ensures .few-widths))
 
 slice-aggregate-put-equations : tie.Need-slice-aggregate-put-equations
 slice-aggregate-put-equations c = search needs
@@ -54,6 +97,15 @@ slice-aggregate-put-equations-2 c = search needs
 
 put-equations-requires : tie.Need-put-equations-requires
 put-equations-requires c κs = search needs
+
+slice-aggregate-put-equations-3 : tie.Need-slice-aggregate-put-equations-3
+slice-aggregate-put-equations-3 c = search needs
+
+slice-aggregate-put-equations-4 : tie.Need-slice-aggregate-put-equations-4
+slice-aggregate-put-equations-4 c = search needs
+
+put-equations-requires-2 : tie.Need-put-equations-requires-2
+put-equations-requires-2 c κs = search needs
 
 slice-aggregate-gather : tie.Need-slice-aggregate-gather
 slice-aggregate-gather c = search needs
@@ -66,44 +118,57 @@ array-share-prefix-x c = search needs
 
 slice-aggregate-first : tie.Need-slice-aggregate-first
 slice-aggregate-first c =
-    let put = c .before .before .before .before .before .before .before .before .put-equations in
+    let put = ahead (c .before .before .before .before .before .before .before .before) .put-equations in
+    sym (length-take-le (put .result .cells) (put .last .0) (omega (arith, put .kept .0, put .ensures .few-cells)))
+
+array-share-prefix-y : tie.Need-array-share-prefix-y
+array-share-prefix-y c = search needs
+
+slice-aggregate-first-2 : tie.Need-slice-aggregate-first-2
+slice-aggregate-first-2 c =
+    let put = c .before .before .before .before .before .before .before .before .before .put-equations2 in
     sym (length-take-le (put .result .cells) (put .last .0) (omega (arith, put .kept .0, put .ensures .few-cells)))
 
 array-share-prefix-w : tie.Need-array-share-prefix-w
 array-share-prefix-w c = search needs
 
-slice-aggregate-first-2 : tie.Need-slice-aggregate-first-2
-slice-aggregate-first-2 c =
-    let put = c .before .before .before .before .before .before .before .before .before .put-equations in
-    sym (length-take-le (put .result .widths) (put .last .1 .0) (omega (arith, put .kept .1 .0, put .ensures .few-widths)))
-
 slice-aggregate-first-3 : tie.Need-slice-aggregate-first-3
-slice-aggregate-first-3 c = search needs
+slice-aggregate-first-3 c = sym (few-widths (c .before .before .before .before .before .before .before .before .before .before))
+
+slice-aggregate-first-4 : tie.Need-slice-aggregate-first-4
+slice-aggregate-first-4 c = search needs
 
 first-requires : tie.Need-first-requires
 first-requires c κs =
-    let put = c .before .before .before .before .before .before .before .before .before .before in
-    let s = start put in
-    let gather = c .before .before .before .before .before .before .gather in
-    let there = put .put-equations .ensures in (
-      subst Cells (sym (there .cells-are)) (flat-cells (sheetOf (s .args .sheet .now)) (s .pre .0 .1) (questions put) (in-range put)),
-      lent-room (es put) (put .put-equations .last .0) (put .put-equations .last .1 .0) (put .put-equations .result) there,
-      omega (arith, gather .ensures .few, gather .kept),
-      s .pre .1 .ranges,
+    let put = c .before .before .before .before .before .before .before .before .before .before .before in
+    let gather = c .before .before .before .before .before .before .before .gather in
+    let p = start put .pre in
+    let m = s put in
+    let a = start put .args .ask in (
+      record {
+        cells = subst Cells (sym (cells-ahead put)) (flat-cells m (p .0 .1) false (questions put) (in-range put));
+        cells-too = subst Cells (sym (cells-behind put)) (flat-cells m (p .0 .1) true (questions put) (in-range put));
+        room = lent-room (es put) (x put) (w put) (cells-ahead put) (widths-ahead put);
+        room-too = lent-room (back put) (y put) (w put) (cells-behind put) (widths-behind put);
+        few = omega (arith, few-widths put, put .put-equations2 .ensures .few-widths);
+        rows-room = omega (arith, gather .ensures .few, gather .kept);
+      },
+      p .1 .ranges,
+      rw (equations-ahead put, equations-behind put) (asked-twins m (p .0 .1) a (p .1) (questions put) (in-range put)),
     )
 
 returns : tie.Need-returns
 returns c =
-    let put = c .before .before .before .before .before .before .before .before .before .before .before in
-    let s = start put in
-    let a = s .args .ask in
-    let gather = c .before .before .before .before .before .before .before .gather in
+    let put = c .before .before .before .before .before .before .before .before .before .before .before .before in
+    let gather = c .before .before .before .before .before .before .before .before .gather in
+    let p = start put .pre in
+    let a = start put .args .ask in
     let rows = gather .last .1 .1 .1 .0 in
-    let same = lent-equations (es put) (put .put-equations .last .0) (put .put-equations .last .1 .0) (put .put-equations .result) (put .put-equations .ensures) in
-    first-finds (s .args .sheet .now) (s .pre .0) a (s .pre .1) rows (gather .result)
-    (λ g legal. gathered-agrees (sheetOf (s .args .sheet .now)) (s .pre .0 .1) g (a .equations) (a .constraints) _ rows (gather .result) (gather .ensures))
-    (Order (s .args .shortest)) (c .first .result)
-    (subst (λ (q : List Equation). First (tryOf q rows (gather .result)) (Within (a .lo) (a .hi)) (Order (s .args .shortest)) (c .first .result)) same (c .first .ensures))
+    let shortest = start put .args .shortest in
+    first-finds (start put .args .sheet .now) (p .0) a (p .1) rows (gather .result)
+    (λ g legal. gathered-agrees (s put) (p .0 .1) g (a .equations) (a .constraints) _ rows (gather .result) (gather .ensures))
+    (Order shortest) (c .first .result)
+    (subst (λ (q : List Equation). First (tryOf q rows (gather .result)) (Within (a .lo) (a .hi)) (Order shortest) (c .first .result)) (equations-ahead put) (c .first .ensures))
 
 pub find-spec : {M : Type 1} → statement M
 find-spec =
@@ -112,12 +177,17 @@ find-spec =
     slice-aggregate-put-equations
     slice-aggregate-put-equations-2
     put-equations-requires
+    slice-aggregate-put-equations-3
+    slice-aggregate-put-equations-4
+    put-equations-requires-2
     slice-aggregate-gather
     gather-requires
     array-share-prefix-x
     slice-aggregate-first
-    array-share-prefix-w
+    array-share-prefix-y
     slice-aggregate-first-2
+    array-share-prefix-w
     slice-aggregate-first-3
+    slice-aggregate-first-4
     first-requires
     returns)
