@@ -9,11 +9,12 @@ use lib.ListN.{getD, length, set, drop}
 use borrow.Author.Tests.{leb-true}
 use Rattle.model.specs.Lists.{pick, from, upTo, total}
 use Rattle.model.proofs.Lists.{never, by-test, all-out, below-out}
+use Rattle.model.proofs.Keeping.{all-below}
 use Rattle.unification.specs.declared.Found.{Found}
 use Rattle.unification.proofs.Laws.{pick-ind}
 use Rattle.attempt.specs.Attempt.{Equation, equations, attemptOf}
 use Rattle.inequalities.specs.Rows.{sideSum, rowHolds, hopelessRow, rowsHold, Within}
-use Rattle.inequalities.proofs.Boxes.{hopeful-holds, hopeless-nowhere}
+use Rattle.inequalities.proofs.Boxes.{hopeful-row}
 use Rattle.bounds.specs.declared.Ranges.{Ranges}
 use Rattle.bounds.specs.Bounds.{sumOf, Some, Inside, Closed, Tightened, totalRows, ClosedTotal}
 use Rattle.bounds.proofs.Sums.{sum-grows}
@@ -79,12 +80,13 @@ module _ (es back : List Equation) (rows : List ℕ) (count : ℕ) (lo hi : List
 
 -- Ranges of one length each, of which no row excludes an end: the rows hold there.
 closed-holds : (rows : List ℕ) (count : ℕ) (lo hi : List ℕ) → Settled lo hi 6 → Closed rows count lo hi → rowsHold rows count lo ≡ true
+unfolding rowsHold
 closed-holds rows count lo hi s c =
-    hopeful-holds rows count lo hi
-    (hopeless-nowhere rows count lo hi (λ i h.
-    by-test (hopelessRow (drop (14 * i) rows) lo hi)
+    all-below (λ i. rowHolds (drop (14 * i) rows) lo) count (λ i h.
+    hopeful-row (drop (14 * i) rows) lo hi s
+    (by-test (hopelessRow (drop (14 * i) rows) lo hi)
     (λ e. never (sym (c .least 0 (omega arith) i h) ∙ hopeless-excludes (drop (14 * i) rows) lo hi 0 (getD lo 0 0) (omega arith) (omega arith) (c .some 0 (omega arith)) e))
-    (λ e. e))) s
+    (λ e. e)))
 
 total-told : (t u : ℕ) (m : List ℕ) → rowsHold (totalRows t u) 2 m ≡ true → (t ≤ sumOf m) × (sumOf m ≤ u)
 unfolding rowsHold rowHolds sideSum sumOf from total

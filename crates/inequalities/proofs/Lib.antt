@@ -3,6 +3,5 @@ pub mod Boxes
 mod Signs
 mod Weighed
 pub mod Rows
-pub mod Shorter
 pub mod Agreement
 mod Steps

@@ -7,7 +7,7 @@ use Prim.Native.Nat.{ℕ, suc, _+_, _-_, _*_, _<_, _≤_}
 use lib.Dec.{leb, ltb, eqb}
 use lib.IntN.{ℤ, pos, negsuc}
 use lib.ListN.{length, getD, drop}
-use Rattle.model.specs.Lists.{pick, each, upTo, all, any, total, placed}
+use Rattle.model.specs.Lists.{pick, each, upTo, all, total, placed}
 use Rattle.model.specs.Sheet.{Symbol, letter, field, Equation, Constraint, Sheet, coefficient}
 use Rattle.inequalities.specs.Asked.{asked}
 
@@ -22,12 +22,9 @@ rowHolds row n = leb (sideSum row n) (sideSum (drop 7 row) n)
 unfoldable pub hopelessRow : List ℕ → List ℕ → List ℕ → Bool
 hopelessRow row lo hi = ltb (sideSum (drop 7 row) hi) (sideSum row lo)
 
--- Several rows, one after the other in a flat list: whether all hold, and whether one is hopeless.
+-- several rows, one after the other in a flat list: whether all hold
 unfoldable pub rowsHold : List ℕ → ℕ → List ℕ → Bool
 rowsHold rows count n = all (λ i. rowHolds (drop (14 * i) rows) n) (upTo count)
-
-unfoldable pub hopelessOf : List ℕ → ℕ → List ℕ → List ℕ → Bool
-hopelessOf rows count lo hi = any (λ i. hopelessRow (drop (14 * i) rows) lo hi) (upTo count)
 
 -- lengths from `lo` to `hi`, field by field
 abbrev pub Within : List ℕ → List ℕ → List ℕ → Type 0

@@ -1,17 +1,15 @@
 // Lengths as linear inequalities: what an equation or a constraint asks of the lengths of the fields' texts, as rows of numbers without
-// signs, and whether no lengths between two vectors can keep such rows. Knows nothing of what the texts hold.
+// signs. It knows nothing of what the texts hold.
 mod making;
 
 use fields::FIELDS;
 use fields::Lengths;
 pub use making::constraint_row;
 pub use making::equation_row;
-pub use making::occurrences;
-pub use making::second_factor;
 ghost use mathlib.Core.Path.{_≡_};
 ghost use Prim.Native.Nat.{_+_, _*_, _<_, _≤_};
 ghost use lib.ListN.{length, getD, drop};
-ghost use Rattle.inequalities.specs.Rows.{sideSum, hopelessOf};
+ghost use Rattle.inequalities.specs.Rows.{sideSum};
 
 // Which equations or constraints of a sheet are asked: those whose mark is true.
 pub type Marks = [bool; 4];
@@ -49,21 +47,4 @@ pub fn side_sum(rows: &[u16], at: usize, n: Lengths) -> usize
         f += 1;
     }
     sum
-}
-
-// Whether some of the first rows fails at all lengths from the one vector to the other: even its least first side is above its greatest
-// second side.
-pub fn hopeless(rows: &[u16], count: usize, lo: Lengths, hi: Lengths) -> bool
-    requires { ⌜ 14 * count ≤ length (now rows) ⌝ }
-    ensures { λ r. ⌜ r ≡ hopelessOf (now (rows .entry)) count lo hi ⌝ }
-{
-    let mut i: usize = 0;
-    while i < count {
-        let at = ROW_SIZE * i;
-        if side_sum(rows, at + SIDE, hi) < side_sum(rows, at, lo) {
-            return true;
-        }
-        i += 1;
-    }
-    false
 }

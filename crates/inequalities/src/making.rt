@@ -25,7 +25,7 @@ fn slot(symbol: u8) -> u8
 }
 
 // How often the symbols of a slot occur in a template.
-pub fn occurrences(template: &[u8], k: u8) -> u16
+fn occurrences(template: &[u8], k: u8) -> u16
     requires { ⌜ length (now template) ≤ 12 ⌝ }
     ensures { λ r. ⌜ r ≡ specs.occurrences (map symbolOf (now (template .entry))) k ⌝ }
 {
@@ -115,7 +115,7 @@ fn first_factor(sheet: &[u8], r: usize, f: usize) -> u16
     positive(coefficient(sheet, r, f))
 }
 
-pub fn second_factor(sheet: &[u8], r: usize, f: usize) -> u16
+fn second_factor(sheet: &[u8], r: usize, f: usize) -> u16
     requires { ⌜ Admitted (now sheet) × (r < length (sheetOf (now sheet) .constraints)) ⌝ }
     ensures { λ n. ⌜ n ≡ specs.negative (model.coefficient (constraint (sheetOf (now (sheet .entry))) r) f) ⌝ }
 {
