@@ -9,10 +9,17 @@ ghost use mathlib.Core.Bool.{true, false};
 ghost use Prim.Native.Nat.{_+_, _<_, _≤_};
 ghost use Rattle.inequalities.specs.Rows.{Within};
 ghost use Rattle.attempt.specs.Attempt.{equations};
-ghost use Rattle.bounds.specs.Bounds.{Some};
+ghost use Rattle.bounds.specs.Bounds.{sumOf, Some};
 ghost use Rattle.boxes.specs.Vectors.{Settled, Box, Before, Sooner, Order, First, tryOf};
 ghost use Rattle.boxes.specs.Boxes.{Twins, Given};
 ghost use Rattle.lengths.specs.Misses.{Misses};
+
+// A total above that of all lengths up to hi.
+fn beyond(hi: Lengths) -> u16
+    ensures { λ r. ⌜ (r ≡ sumOf hi + 1) × (r ≤ 2000) ⌝ }
+{
+    bounds::sum(hi) + 1
+}
 
 // An answer of total t in a box, where there is one.
 fn any_of(
@@ -29,7 +36,8 @@ fn any_of(
     requires { ⌜ Given (now x) (now y) (now w) (now rows) count × Some lo hi × Twins (equations (now x) (now w)) (equations (now y) (now w)) lo hi × (t ≤ 2000) ⌝ }
     ensures { λ r. ⌜ First (tryOf (equations (now (x .entry)) (now (w .entry))) (now (rows .entry)) count) (Box lo hi t t) (Order false) r ⌝ }
 {
-    boxes::seek(x, y, w, rows, count, uses, lo, hi, t, t + 1, false).found
+    let u = t + 1;
+    boxes::seek(x, y, w, rows, count, uses, lo, hi, t, u, false).found
 }
 
 // Whether a box has an answer of total t: `best` is taken for one where it has the least length of field k; nothing proved rests on that.
@@ -112,19 +120,7 @@ fn least(
     requires { ⌜ Given (now x) (now y) (now w) (now rows) count × Some lo hi × Twins (equations (now x) (now w)) (equations (now y) (now w)) lo hi ⌝ }
     ensures { λ r. ⌜ First (tryOf (equations (now (x .entry)) (now (w .entry))) (now (rows .entry)) count) (Within lo hi) Sooner r ⌝ }
 {
-    let best = boxes::seek(
-        x,
-        y,
-        w,
-        rows,
-        count,
-        uses,
-        lo,
-        hi,
-        0,
-        bounds::sum(hi) + 1,
-        true,
-    );
+    let best = boxes::seek(x, y, w, rows, count, uses, lo, hi, 0, beyond(hi), true);
     let found = best.found;
     if !found.ok {
         return found;
@@ -151,17 +147,5 @@ pub fn first(
     if shortest {
         return least(x, y, w, rows, count, uses, lo, hi);
     }
-    boxes::seek(
-        x,
-        y,
-        w,
-        rows,
-        count,
-        uses,
-        lo,
-        hi,
-        0,
-        bounds::sum(hi) + 1,
-        false,
-    ).found
+    boxes::seek(x, y, w, rows, count, uses, lo, hi, 0, beyond(hi), false).found
 }

@@ -7,8 +7,8 @@ use Rattle.lengths.proofs.Laws.{any-found}
 use Rattle.lengths.proofs.any_of.Statement.{statement}
 use Rattle.lengths.proofs.any_of.Tie as tie
 
-add-seek : tie.Need-add-seek
-add-seek c = search needs
+add-u : tie.Need-add-u
+add-u c = search needs
 
 seek-requires : tie.Need-seek-requires
 seek-requires c κs = search needs
@@ -19,4 +19,4 @@ returns c =
     any-found (tryOf (equations (a .x .now) (a .w .now)) (a .rows .now) (a .count)) (a .lo) (a .hi) (a .t) false (c .before .seek .result) (c .before .seek .ensures)
 
 pub any-of-spec : {M : Type 1} → statement M
-any-of-spec = tie.close (tie.spec add-seek seek-requires returns)
+any-of-spec = tie.close (tie.spec add-u seek-requires returns)

@@ -1,8 +1,6 @@
 -- `lengths::first` meets its contract. Assumes nothing.
 use mathlib.Core.Path.{sym, subst}
 use mathlib.Core.Bool.{Bool, false}
-use Prim.Native.Nat.{_+_}
-use native.Mathlib.Omega.{arith}
 use borrow.Author.Needs.{needs}
 use Rattle.attempt.specs.Attempt.{equations}
 use Rattle.inequalities.specs.Rows.{Within}
@@ -22,11 +20,8 @@ returns c =
     let a = c .before .before .before .before .before .before .before .args in
     subst (λ (b : Bool). First (tryOf (equations (a .x .now) (a .w .now)) (a .rows .now) (a .count)) (Within (a .lo) (a .hi)) (Order b) (c .least .result)) (sym (c .before .if1 .taken)) (c .least .ensures)
 
-sum-requires : tie.Need-sum-requires
-sum-requires c κs = search needs
-
-add-seek : tie.Need-add-seek
-add-seek c = search needs
+beyond-requires : tie.Need-beyond-requires
+beyond-requires c κs = search needs
 
 seek-requires : tie.Need-seek-requires
 seek-requires c κs = search needs
@@ -36,11 +31,10 @@ returns-2 c =
     let d = c .before in
     let at = d .before in
     let a = at .before .before .before .before .before .before .before .args in
-    let total = at .sum .ensures .0 in
-    let all = all-found (tryOf (equations (a .x .now) (a .w .now)) (a .rows .now) (a .count)) (a .lo) (a .hi) (at .sum .result + 1) (omega arith) false (d .seek .result) (d .seek .ensures) in
+    let all = all-found (tryOf (equations (a .x .now) (a .w .now)) (a .rows .now) (a .count)) (a .lo) (a .hi) (at .beyond .result) (at .beyond .ensures .0) false (d .seek .result) (d .seek .ensures) in
     subst (λ (b : Bool). First (tryOf (equations (a .x .now) (a .w .now)) (a .rows .now) (a .count)) (Within (a .lo) (a .hi)) (Order b) (d .seek .result .found)) (sym (at .before .if1 .left)) all
 
 pub first-spec : {M : Type 1} → statement M
 first-spec =
     tie.close
-    (tie.spec uses-requires least-requires returns sum-requires add-seek seek-requires returns-2)
+    (tie.spec uses-requires least-requires returns beyond-requires seek-requires returns-2)
