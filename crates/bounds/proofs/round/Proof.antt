@@ -9,7 +9,7 @@ use Rattle.bounds.proofs.round.Tie as tie
 use Rattle.bounds.proofs.by_rows.Reads as by-rows-reads
 
 by-rows-requires : tie.Need-by-rows-requires
-by-rows-requires c κs = let pre = c .before .before .pre in (pre .0, omega arith, pre .2)
+by-rows-requires c κs = let pre = c .before .before .pre in (pre .0, pre .2)
 
 returns : tie.Need-returns
 returns c =
@@ -25,7 +25,7 @@ by-rows-requires-2 c κs =
     let tried = c .before .before .before .before in
     let start = tried .before .before .before in
     let ok = not-false (tried .by-rows .result .ok) (c .before .before .if1 .left) in
-    (start .pre .1, omega arith, tried .by-rows .ensures .found ok .some)
+    (start .pre .1, tried .by-rows .ensures .found ok .some)
 
 returns-2 : tie.Need-returns-2
 returns-2 c =
