@@ -12,7 +12,8 @@ use Rattle.model.proofs.Lists.{never, by-test, all-out, below-out}
 use Rattle.model.proofs.Keeping.{all-below}
 use Rattle.unification.specs.declared.Found.{Found}
 use Rattle.unification.proofs.Laws.{pick-ind}
-use Rattle.attempt.specs.Attempt.{Equation, equations, attemptOf}
+use Rattle.trails.specs.Equations.{Equation, equations}
+use Rattle.trails.specs.Attempt.{attemptOf}
 use Rattle.inequalities.specs.Rows.{sideSum, rowHolds, hopelessRow, rowsHold, Within}
 use Rattle.inequalities.proofs.Boxes.{hopeful-row}
 use Rattle.bounds.specs.declared.Ranges.{Ranges}

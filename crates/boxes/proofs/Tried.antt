@@ -8,7 +8,9 @@ use lib.Dec.{leb}
 use lib.ListN.{getD, drop}
 use Rattle.model.proofs.Lists.{never}
 use Rattle.model.proofs.Keeping.{all-same}
-use Rattle.attempt.specs.Attempt.{Equation, startOf, attemptOf}
+use Rattle.trails.specs.Equations.{Equation}
+use Rattle.walk.specs.Reading.{startOf}
+use Rattle.trails.specs.Attempt.{attemptOf}
 use Rattle.inequalities.specs.Rows.{rowHolds, rowsHold}
 use Rattle.inequalities.proofs.Boxes.{side-same}
 use Rattle.bounds.proofs.Widest.{Same}

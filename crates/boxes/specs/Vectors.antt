@@ -8,7 +8,9 @@ use lib.ListN.{getD}
 use Rattle.model.specs.Lists.{pick}
 use Rattle.unification.specs.declared.Found.{Found}
 use Rattle.unification.specs.Names.{failed}
-use Rattle.attempt.specs.Attempt.{Equation, startOf, attemptOf}
+use Rattle.trails.specs.Equations.{Equation}
+use Rattle.walk.specs.Reading.{startOf}
+use Rattle.trails.specs.Attempt.{attemptOf}
 use Rattle.inequalities.specs.Rows.{Within, rowsHold}
 use Rattle.bounds.specs.Bounds.{sumOf}
 

@@ -13,7 +13,8 @@ ghost use mathlib.Core.Bool.{false};
 ghost use Prim.Native.Nat.{_≤_};
 ghost use lib.ListN.{length};
 ghost use Rattle.walk.specs.Walk.{Cells};
-ghost use Rattle.attempt.specs.Attempt.{equations, cellTotal, attemptOf};
+ghost use Rattle.trails.specs.Equations.{equations, cellTotal};
+ghost use Rattle.trails.specs.Attempt.{attemptOf};
 ghost use Rattle.bounds.specs.Bounds.{sumOf, Some};
 ghost use Rattle.trails.specs.Board.{Watches};
 ghost use Rattle.boxes.specs.Vectors.{tryOf};
@@ -98,10 +99,10 @@ fn shrink(
 
 // A box of one vector: an attempt there.
 fn at_vector(x: &[u8], w: &[u8], n: Lengths, best: Best, shortest: bool) -> Best
-    requires { ⌜ Cells (now x) × (cellTotal (now w) ≤ length (now x)) ⌝ }
+    requires { ⌜ Cells (now x) × (cellTotal (now w) ≤ length (now x)) × (length (now w) ≤ 8) ⌝ }
     ensures { λ r. ⌜ r ≡ taken (attemptOf (equations (now (x .entry)) (now (w .entry))) n) (sumOf n) best shortest ⌝ }
 {
-    let found = attempt::attempt(x, w, n);
+    let found = trails::attempt(x, w, n);
     if !found.ok {
         return best;
     }

@@ -8,7 +8,7 @@ ghost use mathlib.Core.Path.{_≡_};
 ghost use mathlib.Core.Bool.{true, false};
 ghost use Prim.Native.Nat.{_+_, _<_, _≤_};
 ghost use Rattle.inequalities.specs.Rows.{Within};
-ghost use Rattle.attempt.specs.Attempt.{equations};
+ghost use Rattle.trails.specs.Equations.{equations};
 ghost use Rattle.bounds.specs.Bounds.{sumOf, Some};
 ghost use Rattle.boxes.specs.Vectors.{Settled, Box, Before, Sooner, Order, First, tryOf};
 ghost use Rattle.boxes.specs.Boxes.{Twins, Given};

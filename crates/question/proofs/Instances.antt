@@ -18,8 +18,9 @@ use Rattle.fields.specs.declared.Field.{Field}
 use Rattle.fields.specs.Memory.{textOf, textsOf, field, Whole, meaning, Held}
 use Rattle.unification.specs.Names.{app, mapField, noField}
 use Rattle.unification.proofs.Laws.{pick-ind, Refining}
-use Rattle.attempt.specs.Attempt.{nameOf, freshOf, startOf}
-use Rattle.attempt.proofs.Right.{at8, start-field, Instance}
+use Rattle.walk.specs.Reading.{nameOf, freshOf, startOf}
+use Rattle.walk.proofs.Renewing.{at8, start-field}
+use Rattle.trails.proofs.Attempts.{Instance}
 use Rattle.inequalities.specs.Asked.{lengthsOf}
 use Rattle.inequalities.proofs.Asked.{lengths-at}
 use Rattle.question.proofs.Words.{text-length, meaning-at}

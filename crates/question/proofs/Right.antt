@@ -17,8 +17,9 @@ use Rattle.model.proofs.Words.{same-word-equal, constraint-out, constraint-in}
 use Rattle.fields.specs.declared.Field.{Field}
 use Rattle.fields.specs.Memory.{meaning, Held}
 use Rattle.unification.specs.declared.Found.{Found}
-use Rattle.attempt.specs.Attempt.{Equation, attemptOf, Solves}
-use Rattle.attempt.proofs.Right.{Instance, attempt-sound, attempt-complete}
+use Rattle.trails.specs.Equations.{Equation, Solves}
+use Rattle.trails.specs.Attempt.{attemptOf}
+use Rattle.trails.proofs.Attempts.{Instance, attempt-sound, attempt-complete}
 use Rattle.inequalities.specs.Asked.{asked, lengthsOf, sidesAgree, lengthsAgree}
 use Rattle.inequalities.specs.Rows.{Within, rowsHold}
 use Rattle.inequalities.proofs.Asked.{asked-in}

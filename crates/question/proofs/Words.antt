@@ -26,7 +26,7 @@ use Rattle.unification.specs.Names.{noField, placeOf, valueOf}
 use Rattle.unification.proofs.Laws.{value-place, value-letter}
 use Rattle.walk.specs.Walk.{word}
 use Rattle.walk.proofs.Right.{word-blank, word-solid}
-use Rattle.attempt.specs.Attempt.{Solves}
+use Rattle.trails.specs.Equations.{Solves}
 use Rattle.trails.specs.Mirror.{templateCells, sidesOf}
 
 -- inside a list it plays no part what would stand past its end

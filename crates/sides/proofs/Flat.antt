@@ -20,8 +20,8 @@ use Rattle.formula.proofs.Valid.{CellIn, cells-in}
 use Rattle.shape.specs.Bytes.{cellByte}
 use Rattle.unification.specs.Names.{Below}
 use Rattle.walk.specs.Walk.{Cells}
-use Rattle.attempt.specs.Attempt.{Equation, equations, cellTotal}
-use Rattle.attempt.proofs.Right.{AllLetters}
+use Rattle.trails.specs.Equations.{Equation, equations, cellTotal}
+use Rattle.trails.proofs.Attempts.{AllLetters}
 use Rattle.inequalities.specs.Asked.{asked}
 use Rattle.inequalities.proofs.Asked.{asked-none, asked-next}
 use Rattle.trails.specs.Mirror.{templateCells, sidesOf}

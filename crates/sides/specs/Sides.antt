@@ -7,7 +7,7 @@ use lib.ListN.{length, take}
 use Rattle.model.specs.Lists.{pick, each, Puts}
 use Rattle.model.specs.Sheet.{Symbol, Sheet}
 use Rattle.model.specs.Sheet as sheet
-use Rattle.attempt.specs.Attempt.{Equation}
+use Rattle.trails.specs.Equations.{Equation}
 use Rattle.trails.specs.Mirror.{templateCells}
 use Rattle.sides.specs.declared.Sizes.{Sizes}
 

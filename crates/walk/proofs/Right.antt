@@ -1,31 +1,42 @@
--- The walk is right: what it answers makes the two words equal, and it loses no way to make them equal. Both directions hold of every
--- substitution: no invariant on names is needed. Assumes nothing.
-use mathlib.Core.Path.{_≡_, refl, sym, ap, ap₂, _∙_}
-use mathlib.Core.Bool.{true}
-use mathlib.Core.List.{List, [], _∷_, map}
-use Prim.Native.Nat.{ℕ, suc}
+-- The walk in a box loses nothing: of texts that a substitution of the box covers, and whose words from the walk's start on are equal, it does not fail,
+-- and its answer covers them. So where it fails, no lengths of the box have such texts. Assumes nothing.
+use mathlib.Core.Path.{_≡_, refl, sym, ap, _∙_}
+use mathlib.Core.Bool.{true, false}
+use mathlib.Core.List.{List, [], _∷_, _++_}
+use mathlib.Core.Logic.{_⊎_, inl, inr}
+use Prim.Native.Nat.{ℕ, suc, _+_, _-_, _≤_}
 use native.Mathlib.Omega.{arith}
+use lib.ListN.{length, drop, length-drop}
+use lib.Seq.{drop-drop}
 use lib.Dec.{eqb}
 use borrow.Author.Tests.{eqb-true, eqb-false, eq-eqb, ne-eqb}
-use Rattle.model.proofs.Lists.{never}
+use Rattle.model.proofs.Lists.{by-test}
 use Rattle.fields.specs.declared.Field.{Field}
-use Rattle.unification.specs.declared.Found.{Found}
-use Rattle.unification.specs.Names.{app, valueOf, unifyOf, found, failed, Inside}
-use Rattle.unification.proofs.Laws.{pick-ind, Refining, Renamed, unchanged, further, value-renamed, Unified, unify-sound, unify-complete, unify-inside, value-below}
-use Rattle.walk.specs.Walk.{Letters, word, onward, walkOf}
+use Rattle.unification.specs.Names.{repl, app, valueOf, unifyOf}
+use Rattle.unification.proofs.Laws.{pick-ind, Refining, Renamed, value-renamed, unify-cases, unify-complete}
+use Rattle.walk.specs.declared.Walked.{Walked}
+use Rattle.walk.specs.Walk.{word, Reached, reached, isOpen, onward, walkIn, walkOn}
+use Rattle.walk.specs.Reading.{Reads}
 
--- Induction along the walk: what holds where both sides are used up or one is left over, and is kept by passing a blank and by passing two
--- letters or names, holds of what the walk answers.
-record Along (P : List ℕ → List ℕ → List Field → Found → Type 0) : Type 0 where
-  ends : (g : List Field) → P [] [] g (found g)
-  left-blank : (u : ℕ) (a b : List ℕ) (g : List Field) (r : Found) → valueOf g u ≡ 255 → P a b g r → P (u ∷ a) b g r
-  right-blank : (v : ℕ) (a b : List ℕ) (g : List Field) (r : Found) → valueOf g v ≡ 255 → P a b g r → P a (v ∷ b) g r
-  left-over : (u : ℕ) (a : List ℕ) (g : List Field) → (valueOf g u ≡ 255 → ⊥) → P (u ∷ a) [] g (failed g)
-  right-over : (v : ℕ) (b : List ℕ) (g : List Field) → (valueOf g v ≡ 255 → ⊥) → P [] (v ∷ b) g (failed g)
-  letters : (u v : ℕ) (a b : List ℕ) (g : List Field) → (valueOf g u ≡ 255 → ⊥) → (valueOf g v ≡ 255 → ⊥) → ((h : List Field) → P a b h (walkOf a b h)) → P (u ∷ a) (v ∷ b) g (onward (unifyOf g (valueOf g u) (valueOf g v)) (walkOf a b))
+-- a cell holds a letter or a name
+pub record Solid (g : List Field) (u : ℕ) : Type 0 where
+  pub present : valueOf g u ≡ 255 → ⊥
+  pub closed : valueOf g u ≡ 254 → ⊥
 
-along : (P : List ℕ → List ℕ → List Field → Found → Type 0) → Along P → (a b : List ℕ) (g : List Field) → P a b g (walkOf a b g)
-unfolding walkOf
+-- Induction along the walk: what holds where it stops, and is kept by each way to pass cells, holds of what the walk answers.
+pub record Along (P : List ℕ → List ℕ → List Field → Reached → Type 0) : Type 0 where
+  pub ends : (g : List Field) → P [] [] g (reached true [] [] g)
+  pub left-blank : (u : ℕ) (a b : List ℕ) (g : List Field) (r : Reached) → valueOf g u ≡ 255 → P a b g r → P (u ∷ a) b g r
+  pub right-blank : (v : ℕ) (a b : List ℕ) (g : List Field) (r : Reached) → valueOf g v ≡ 255 → P a b g r → P a (v ∷ b) g r
+  pub left-over : (u : ℕ) (a : List ℕ) (g : List Field) → (valueOf g u ≡ 255 → ⊥) → P (u ∷ a) [] g (reached (isOpen g u) (u ∷ a) [] g)
+  pub right-over : (v : ℕ) (b : List ℕ) (g : List Field) → (valueOf g v ≡ 255 → ⊥) → P [] (v ∷ b) g (reached (isOpen g v) [] (v ∷ b) g)
+  pub same-cell : (u v : ℕ) (a b : List ℕ) (g : List Field) (r : Reached) → u ≡ v → P a b g r → P (u ∷ a) (v ∷ b) g r
+  pub waits : (u v : ℕ) (a b : List ℕ) (g : List Field) → (valueOf g u ≡ 254) ⊎ (valueOf g v ≡ 254) → P (u ∷ a) (v ∷ b) g (reached true (u ∷ a) (v ∷ b) g)
+  pub letters : (u v : ℕ) (a b : List ℕ) (g : List Field) → Solid g u → Solid g v → ((h : List Field) → P a b h (walkIn a b h))
+      → P (u ∷ a) (v ∷ b) g (onward (unifyOf g (valueOf g u) (valueOf g v)) (walkIn a b) (reached false (u ∷ a) (v ∷ b) g))
+
+pub along : (P : List ℕ → List ℕ → List Field → Reached → Type 0) → Along P → (a b : List ℕ) (g : List Field) → P a b g (walkIn a b g)
+unfolding walkIn
 along P k [] [] g = k .ends g
 along P k [] (v ∷ b) g =
     pick-ind (P [] (v ∷ b) g) (eqb (valueOf g v) 255)
@@ -40,7 +51,16 @@ along P k (u ∷ a) (v ∷ b) g =
     (λ t. k .left-blank u a (v ∷ b) g _ (eqb-true _ _ t) (along P k a (v ∷ b) g))
     (λ n. pick-ind (P (u ∷ a) (v ∷ b) g) (eqb (valueOf g v) 255)
     (λ t. k .right-blank v (u ∷ a) b g _ (eqb-true _ _ t) (along P k (u ∷ a) b g))
-    (λ m. k .letters u v a b g (eqb-false _ _ n) (eqb-false _ _ m) (along P k a b)))
+    (λ m. pick-ind (P (u ∷ a) (v ∷ b) g) (eqb u v)
+    (λ t. k .same-cell u v a b g _ (eqb-true _ _ t) (along P k a b g))
+    (λ d. pick-ind (P (u ∷ a) (v ∷ b) g) (isOpen g u)
+    (λ t. k .waits u v a b g (inl (eqb-true _ _ t)))
+    (λ p. pick-ind (P (u ∷ a) (v ∷ b) g) (isOpen g v)
+    (λ t. k .waits u v a b g (inr (eqb-true _ _ t)))
+    (λ q. k .letters u v a b g
+    (record { present = eqb-false _ _ n; closed = eqb-false _ _ p })
+    (record { present = eqb-false _ _ m; closed = eqb-false _ _ q })
+    (along P k a b))))))
 
 never-empty : {P : Type 0} {x : ℕ} {xs : List ℕ} → x ∷ xs ≡ [] → P
 never-empty e = let z : _≡_ {A = ℕ} 0 1 = cc in absurd (omega arith)
@@ -54,93 +74,162 @@ pub word-solid : (g : List Field) (u : ℕ) (a : List ℕ) → (valueOf g u ≡ 
 unfolding word
 word-solid g u a n = simp (ne-eqb _ _ n)
 
--- and so under a renaming, which keeps blanks blank, and makes no others
-module _ {g h : List Field} (k : Renamed g h) (u : ℕ) (a : List ℕ) where
-  renamed-blank : valueOf g u ≡ 255 → word h (u ∷ a) ≡ word h a
-  renamed-blank e = word-blank h u a (value-renamed k u ∙ ap (k .by) e ∙ k .refines .blank)
-
-  renamed-solid : (valueOf g u ≡ 255 → ⊥) → word h (u ∷ a) ≡ k .by (valueOf g u) ∷ word h a
-  renamed-solid n = word-solid h u a (λ e. n (k .refines .solid _ (sym (value-renamed k u) ∙ e))) ∙ ap (λ (x : ℕ). x ∷ word h a) (value-renamed k u)
-
-word-renamed : {g h : List Field} (k : Renamed g h) (a : List ℕ) → word h a ≡ map (k .by) (word g a)
+-- words of cells one after the other
+pub word-append : (g : List Field) (a b : List ℕ) → word g (a ++ b) ≡ word g a ++ word g b
 unfolding word
-word-renamed k [] = refl
-word-renamed {g} {h} k (u ∷ a) =
-    pick-ind (λ (z : List ℕ). word h (u ∷ a) ≡ map (k .by) z) (eqb (valueOf g u) 255)
-    (λ t. renamed-blank k u a (eqb-true _ _ t) ∙ word-renamed k a)
-    (λ t. renamed-solid k u a (eqb-false _ _ t) ∙ ap (λ (z : List ℕ). k .by (valueOf g u) ∷ z) (word-renamed k a))
+word-append g [] b = refl
+word-append g (u ∷ a) b =
+    pick-ind (λ (z : List ℕ). word g (u ∷ (a ++ b)) ≡ z ++ word g b) (eqb (valueOf g u) 255)
+    (λ t. word-blank g u (a ++ b) (eqb-true _ _ t) ∙ word-append g a b)
+    (λ t. word-solid g u (a ++ b) (eqb-false _ _ t) ∙ ap (λ (z : List ℕ). valueOf g u ∷ z) (word-append g a b))
 
--- so an equality of words survives what is unified later
-pub equal-renamed : {g h : List Field} → Renamed g h → (a b : List ℕ) → word g a ≡ word g b → word h a ≡ word h b
-equal-renamed k a b e = word-renamed k a ∙ ap (map (k .by)) e ∙ sym (word-renamed k b)
-
--- h is g under a renaming, and makes the words of a and b equal
-pub record Solved (a b : List ℕ) (g h : List Field) : Type 0 where
-  pub how : Renamed g h
-  pub equal : word h a ≡ word h b
-
-exchanged : {a b : List ℕ} {g h : List Field} → Solved a b g h → Solved b a g h
-exchanged r = record { how = r .how; equal = sym (r .equal) }
-
-solved-left : {a b : List ℕ} {g h : List Field} {u : ℕ} → valueOf g u ≡ 255 → Solved a b g h → Solved (u ∷ a) b g h
-solved-left {a} {u = u} e r = record { how = r .how; equal = renamed-blank (r .how) u a e ∙ r .equal }
-
-solved-right : {a b : List ℕ} {g h : List Field} {v : ℕ} → valueOf g v ≡ 255 → Solved a b g h → Solved a (v ∷ b) g h
-solved-right e r = exchanged (solved-left e (exchanged r))
-
-solved-both : {a b : List ℕ} {g k h : List Field} {u v : ℕ} → (valueOf g u ≡ 255 → ⊥) → (valueOf g v ≡ 255 → ⊥) → Unified g (valueOf g u) (valueOf g v) k → Solved a b k h → Solved (u ∷ a) (v ∷ b) g h
-solved-both {a} {b} {u = u} {v = v} n m q r =
-    let both = further (q .how) (r .how) in
-    record { how = both; equal = renamed-solid both u a n ∙ ap₂ (λ x z. x ∷ z) (ap (r .how .by) (q .joins)) (r .equal) ∙ sym (renamed-solid both v b m) }
-
-pub walk-sound : (a b : List ℕ) (g : List Field) → walkOf a b g .ok ≡ true → Solved a b g (walkOf a b g .substitution)
-walk-sound = along (λ a b g r. r .ok ≡ true → Solved a b g (r .substitution)) record {
-  ends = λ g _. record { how = unchanged g; equal = refl };
-  left-blank = λ u a b g r e so t. solved-left e (so t);
-  right-blank = λ v a b g r e so t. solved-right e (so t);
-  left-over = λ u a g n. never;
-  right-over = λ v b g n. never;
-  letters = λ u v a b g n m so.
-      pick-ind (λ (r : Found). r .ok ≡ true → Solved (u ∷ a) (v ∷ b) g (r .substitution)) (unifyOf g (valueOf g u) (valueOf g v) .ok)
-      (λ t e. solved-both n m (unify-sound g (valueOf g u) (valueOf g v) n m t) (so (unifyOf g (valueOf g u) (valueOf g v) .substitution) e))
-      (λ t e. never (sym t ∙ e));
+-- Unification of letters and names leaves open places open, and makes none.
+repl-refines : (u v : ℕ) → 8 ≤ u → (u ≡ 255 → ⊥) → (v ≡ 255 → ⊥) → Refining (repl u v)
+repl-refines u v h n m = record {
+  letter = λ x k. simp (ne-eqb x u (λ e. omega arith));
+  blank = simp (ne-eqb 255 u (λ e. n (sym e)));
+  solid = λ x. pick-ind (λ z. z ≡ 255 → x ≡ 255) (eqb x u) (λ t e. absurd (m e)) (λ t e. e);
 }
 
--- the walk loses nothing: s makes the words equal, so the walk succeeds and s cannot tell its answer from g
-abbrev pub Keeps : (ℕ → ℕ) → List Field → Found → Type 0
-Keeps s g r = (r .ok ≡ true) × (app s (r .substitution) ≡ app s g)
+-- the same places are open
+abbrev pub SameOpen : List Field → List Field → Type 0
+SameOpen g h = (w : ℕ) → ((valueOf g w ≡ 254 → valueOf h w ≡ 254) × (valueOf h w ≡ 254 → valueOf g w ≡ 254))
 
-module _ (s : ℕ → ℕ) (p : Refining s) where
-  abbrev by-s : (g : List Field) → Renamed g (app s g)
-  by-s g = record { by = s; refines = p; is = refl }
+repl-open : (g : List Field) (u v : ℕ) → 8 ≤ u → (u ≡ 255 → ⊥) → (v ≡ 255 → ⊥) → (u ≡ 254 → ⊥) → (v ≡ 254 → ⊥) → SameOpen g (app (repl u v) g)
+repl-open g u v h n m p q w =
+    let k : Renamed g (app (repl u v) g) = record { by = repl u v; refines = repl-refines u v h n m; is = refl } in
+    rw (value-renamed k w)
+    (pick-ind (λ z. (valueOf g w ≡ 254 → z ≡ 254) × (z ≡ 254 → valueOf g w ≡ 254)) (eqb (valueOf g w) u)
+    (λ t. (λ e. absurd (p (sym (eqb-true _ _ t) ∙ e)), λ e. absurd (q e)))
+    (λ t. (λ e. e, λ e. e)))
 
-  pub walk-complete : (a b : List ℕ) (g : List Field) → word (app s g) a ≡ word (app s g) b → Keeps s g (walkOf a b g)
+pub unify-open : (g : List Field) (u v : ℕ) → (u ≡ 255 → ⊥) → (v ≡ 255 → ⊥) → (u ≡ 254 → ⊥) → (v ≡ 254 → ⊥) → SameOpen g (unifyOf g u v .substitution)
+unify-open g u v n m p q =
+    unify-cases (λ r. SameOpen g (r .substitution)) g u v
+    (λ e w. (λ z. z, λ z. z))
+    (λ d a b w. (λ z. z, λ z. z))
+    (λ d h. repl-open g u v h n m p q)
+    (λ d h. repl-open g v u h m n q p)
+
+-- s is read by σ from what the walk answers, and the words from there on are equal
+pub record Keeps (σ : ℕ → ℕ) (s : List Field) (r : Reached) : Type 0 where
+  pub goes : r .ok ≡ true
+  pub reads : Reads σ (r .substitution) s
+  pub equal : word s (r .left) ≡ word s (r .right)
+
+pub record KeepsOn (σ : ℕ → ℕ) (s : List Field) (a b : List ℕ) (r : Walked) : Type 0 where
+  pub goes : r .ok ≡ true
+  pub reads : Reads σ (r .substitution) s
+  pub equal : word s (drop (r .left) a) ≡ word s (drop (r .right) b)
+
+module _ (σ : ℕ → ℕ) (p : Refining σ) (s : List Field) where
+  -- what the texts have at a cell that is blank, or that holds a letter or a name
+  read-blank : (g : List Field) (u : ℕ) → Reads σ g s → valueOf g u ≡ 255 → valueOf s u ≡ 255
+  unfolding Reads
+  read-blank g u h e = sym (h u (λ o. let z : _≡_ {A = ℕ} 254 255 = sym o ∙ e in omega arith)) ∙ ap σ e ∙ p .blank
+
+  read-solid : (g : List Field) (u : ℕ) → Reads σ g s → Solid g u → valueOf s u ≡ 255 → ⊥
+  unfolding Reads
+  read-solid g u h k e = k .present (p .solid (valueOf g u) (h u (k .closed) ∙ e))
+
+  read-word : (g : List Field) (u : ℕ) (a : List ℕ) → Reads σ g s → Solid g u → word s (u ∷ a) ≡ σ (valueOf g u) ∷ word s a
+  unfolding Reads
+  read-word g u a h k = word-solid s u a (read-solid g u h k) ∙ ap (λ (x : ℕ). x ∷ word s a) (sym (h u (k .closed)))
+
+  -- the same cell in front adds the same to both words
+  same-front : (u : ℕ) (a b : List ℕ) → word s (u ∷ a) ≡ word s (u ∷ b) → word s a ≡ word s b
+  same-front u a b e =
+      by-test (eqb (valueOf s u) 255)
+      (λ t. sym (word-blank s u a (eqb-true _ _ t)) ∙ e ∙ word-blank s u b (eqb-true _ _ t))
+      (λ t. let q = sym (word-solid s u a (eqb-false _ _ t)) ∙ e ∙ word-solid s u b (eqb-false _ _ t) in cc)
+
+  -- what is unified is still read as s
+  read-unified : (g k : List Field) → SameOpen g k → app σ k ≡ app σ g → Reads σ g s → Reads σ k s
+  unfolding Reads
+  read-unified g k o e h u n =
+      let from : Renamed g (app σ g) = record { by = σ; refines = p; is = refl } in
+      let to : Renamed k (app σ k) = record { by = σ; refines = p; is = refl } in
+      sym (value-renamed to u) ∙ ap (λ (z : List Field). valueOf z u) e ∙ value-renamed from u ∙ h u (λ z. n (o u .0 z))
+
+  word-none : word s [] ≡ []
   unfolding word
-  walk-complete = along (λ a b g r. word (app s g) a ≡ word (app s g) b → Keeps s g r) record {
-    ends = λ g _. (refl, refl);
-    left-blank = λ u a b g r e so w. so (sym (renamed-blank (by-s g) u a e) ∙ w);
-    right-blank = λ v a b g r e so w. so (w ∙ renamed-blank (by-s g) v b e);
-    left-over = λ u a g n w. never-empty (sym (renamed-solid (by-s g) u a n) ∙ w);
-    right-over = λ v b g n w. never-empty (sym (renamed-solid (by-s g) v b n) ∙ sym w);
-    letters = λ u v a b g n m so w.
-        let q = sym (renamed-solid (by-s g) u a n) ∙ w ∙ renamed-solid (by-s g) v b m in
+  word-none = refl
+
+  -- a side used up before a cell: that cell is open, since the texts have nothing there
+  over-open : (g : List Field) (u : ℕ) (a : List ℕ) → Reads σ g s → (valueOf g u ≡ 255 → ⊥) → word s (u ∷ a) ≡ [] → isOpen g u ≡ true
+  over-open g u a h n e =
+      by-test (isOpen g u) (λ t. t)
+      (λ t. never-empty (sym (read-word g u a h (record { present = n; closed = eqb-false _ _ t })) ∙ e))
+
+  pub walk-complete : (a b : List ℕ) (g : List Field) → Reads σ g s → word s a ≡ word s b → Keeps σ s (walkIn a b g)
+  walk-complete = along (λ a b g r. Reads σ g s → word s a ≡ word s b → Keeps σ s r) record {
+    ends = λ g h e. record { goes = refl; reads = h; equal = e };
+    left-blank = λ u a b g r z so h e. so h (sym (word-blank s u a (read-blank g u h z)) ∙ e);
+    right-blank = λ v a b g r z so h e. so h (e ∙ word-blank s v b (read-blank g v h z));
+    left-over = λ u a g n h e. record { goes = over-open g u a h n (e ∙ word-none); reads = h; equal = e };
+    right-over = λ v b g n h e. record { goes = over-open g v b h n (sym e ∙ word-none); reads = h; equal = e };
+    same-cell = λ u v a b g r d so h e. so h (same-front u a b (e ∙ ap (λ (x : ℕ). word s (x ∷ b)) (sym d)));
+    waits = λ u v a b g o h e. record { goes = refl; reads = h; equal = e };
+    letters = λ u v a b g m n so h e.
+        let q = sym (read-word g u a h m) ∙ e ∙ read-word g v b h n in
         let k : List Field = unifyOf g (valueOf g u) (valueOf g v) .substitution in
-        let c : Keeps s g (unifyOf g (valueOf g u) (valueOf g v)) = unify-complete g (valueOf g u) (valueOf g v) s p (cc) in
-        let i : Keeps s k (walkOf a b k) = so k (rw (c .1) (cc)) in
-        rw (c .0) (i .0, i .1 ∙ c .1);
+        let c = unify-complete g (valueOf g u) (valueOf g v) σ p (cc) in
+        let o : SameOpen g k = unify-open g (valueOf g u) (valueOf g v) (m .present) (n .present) (m .closed) (n .closed) in
+        rw (c .0) (so k (read-unified g k o (c .1) h) (cc));
   }
 
--- the walk brings in no letter that the cells and the substitution do not have
-pub walk-inside : (l : ℕ) (a b : List ℕ) (g : List Field) → Letters l a → Letters l b → Inside l g → Inside l (walkOf a b g .substitution)
-walk-inside l = along (λ a b g r. Letters l a → Letters l b → Inside l g → Inside l (r .substitution)) record {
-  ends = λ g p q ins. ins;
-  left-blank = λ u a b g r e so p q. so (λ i. p (suc i)) q;
-  right-blank = λ v a b g r e so p q. so p (λ i. q (suc i));
-  left-over = λ u a g n p q ins. ins;
-  right-over = λ v b g n p q ins. ins;
-  letters = λ u v a b g n m so p q ins.
-      let k : Inside l (unifyOf g (valueOf g u) (valueOf g v) .substitution) = unify-inside l g (valueOf g u) (valueOf g v) ins n m (value-below l g u ins (p 0)) (value-below l g v ins (q 0)) in
-      pick-ind (λ (r : Found). Inside l (r .substitution)) (unifyOf g (valueOf g u) (valueOf g v) .ok)
-      (λ t. so (unifyOf g (valueOf g u) (valueOf g v) .substitution) (λ i. p (suc i)) (λ i. q (suc i)) k)
-      (λ t. k);
+-- What is left of a side is an end of it.
+record End (a xs : List ℕ) : Type 0 where
+  passed : ℕ
+  within : passed ≤ length a
+  is : xs ≡ drop passed a
+
+whole : (a : List ℕ) → End a a
+whole a = record { passed = 0; within = omega arith; is = refl }
+
+one-more : {u : ℕ} {a xs : List ℕ} → End a xs → End (u ∷ a) xs
+one-more e = record { passed = suc (e .passed); within = let h = e .within in omega arith; is = e .is }
+
+walk-ends : (a b : List ℕ) (g : List Field) → End a (walkIn a b g .left) × End b (walkIn a b g .right)
+walk-ends = along (λ a b g r. End a (r .left) × End b (r .right)) record {
+  ends = λ g. (whole [], whole []);
+  left-blank = λ u a b g r z so. (one-more (so .0), so .1);
+  right-blank = λ v a b g r z so. (so .0, one-more (so .1));
+  left-over = λ u a g n. (whole (u ∷ a), whole []);
+  right-over = λ v b g n. (whole [], whole (v ∷ b));
+  same-cell = λ u v a b g r d so. (one-more (so .0), one-more (so .1));
+  waits = λ u v a b g o. (whole (u ∷ a), whole (v ∷ b));
+  letters = λ u v a b g m n so.
+      pick-ind (λ (r : Reached). End (u ∷ a) (r .left) × End (v ∷ b) (r .right)) (unifyOf g (valueOf g u) (valueOf g v) .ok)
+      (λ t. let e = so (unifyOf g (valueOf g u) (valueOf g v) .substitution) in (one-more (e .0), one-more (e .1)))
+      (λ t. (whole (u ∷ a), whole (v ∷ b)));
 }
+
+-- So the cells passed say what is left.
+left-is : (a xs : List ℕ) (i : ℕ) → i ≤ length a → End (drop i a) xs → drop (length a - length xs) a ≡ xs
+left-is a xs i h e =
+    let long = length-drop i a in
+    let len : length xs ≡ length a - i - e .passed = rw (e .is, length-drop (e .passed) (drop i a), length-drop i a) in
+    let at : length a - length xs ≡ i + e .passed = omega (arith, e .within) in
+    rw at (sym (drop-drop (e .passed) i a) ∙ sym (e .is))
+
+module _ (a b : List ℕ) (i j : ℕ) (g : List Field) (from : i ≤ length a) (to : j ≤ length b) where
+  left-there : drop (walkOn a b i j g .left) a ≡ walkIn (drop i a) (drop j b) g .left
+  unfolding walkOn
+  left-there = left-is a _ i from (walk-ends (drop i a) (drop j b) g .0)
+
+  right-there : drop (walkOn a b i j g .right) b ≡ walkIn (drop i a) (drop j b) g .right
+  unfolding walkOn
+  right-there = left-is b _ j to (walk-ends (drop i a) (drop j b) g .1)
+
+  -- The walk in numbers loses nothing.
+  pub walk-on-complete : (σ : ℕ → ℕ) → Refining σ → (s : List Field) → Reads σ g s → word s (drop i a) ≡ word s (drop j b) → KeepsOn σ s a b (walkOn a b i j g)
+  unfolding walkOn
+  walk-on-complete σ p s h e =
+      let k = walk-complete σ p s (drop i a) (drop j b) g h e in
+      record { goes = k .goes; reads = k .reads; equal = ap (word s) left-there ∙ k .equal ∙ ap (word s) (sym right-there) }
+
+-- the locations are within the sides
+pub walk-on-within : (a b : List ℕ) (i j : ℕ) (g : List Field) (r : Walked) → r ≡ walkOn a b i j g → (r .left ≤ length a) × (r .right ≤ length b)
+unfolding walkOn
+walk-on-within a b i j g r e = rw e (omega arith, omega arith)

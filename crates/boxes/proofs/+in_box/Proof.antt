@@ -7,7 +7,7 @@ use native.Mathlib.Omega.{arith}
 use lib.Arith.{lt-of-le-ne}
 use lib.ListN.{getD}
 use borrow.Author.Tests.{not-true, not-false}
-use Rattle.attempt.specs.Attempt.{Equation, equations}
+use Rattle.trails.specs.Equations.{Equation, equations}
 use Rattle.inequalities.specs.Rows.{Within}
 use Rattle.bounds.specs.Bounds.{sumOf, Some}
 use Rattle.bounds.proofs.Sums.{sum-grows}
@@ -149,7 +149,7 @@ in-box-choose-requires : (t : ℕ) → in-box-lts.Need-choose-requires (claims t
 in-box-choose-requires t c κs = ranges t c
 
 in-box-at-vector-requires : (t : ℕ) → in-box-lts.Need-at-vector-requires (claims t) (in-box-at t) in-box.Post
-in-box-at-vector-requires t c κs = let given = start t (shrunk t (c .before .before)) .pre .1 .0 in (given .cells, given .room)
+in-box-at-vector-requires t c κs = let given = start t (shrunk t (c .before .before)) .pre .1 .0 in (given .cells, given .room, given .few)
 
 in-box-returns-3 : (t : ℕ) → in-box-lts.Need-returns-3 (claims t) (in-box-at t) in-box.Post
 in-box-returns-3 t c =

@@ -2,7 +2,7 @@
 use mathlib.Core.Path.{sym, subst}
 use native.Mathlib.Omega.{arith}
 use borrow.Author.Needs.{needs}
-use Rattle.attempt.specs.Attempt.{equations}
+use Rattle.trails.specs.Equations.{equations}
 use Rattle.trails.specs.Board.{Watches}
 use Rattle.trails.proofs.Boards.{open-watches}
 use Rattle.boxes.specs.Vectors.{tryOf}

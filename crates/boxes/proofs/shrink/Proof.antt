@@ -2,7 +2,7 @@
 use mathlib.Core.Path.{refl}
 use borrow.Author.Needs.{needs}
 use borrow.Author.Tests.{not-true, not-false}
-use Rattle.attempt.specs.Attempt.{equations}
+use Rattle.trails.specs.Equations.{equations}
 use Rattle.boxes.proofs.Laws.{emptied, walked}
 use Rattle.boxes.proofs.shrink.Statement.{statement}
 use Rattle.boxes.proofs.shrink.Tie as tie

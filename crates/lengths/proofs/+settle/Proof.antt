@@ -9,7 +9,7 @@ use lib.ListN.{getD}
 use borrow.Author.Tests.{not-true, not-false}
 use Rattle.model.proofs.Lists.{never}
 use Rattle.unification.specs.declared.Found.{Found}
-use Rattle.attempt.specs.Attempt.{equations}
+use Rattle.trails.specs.Equations.{equations}
 use Rattle.boxes.specs.Vectors.{Settled, Box, Before, tryOf}
 use Rattle.boxes.proofs.Parts.{Parting, least-ranges, others-ranges, least-within, others-within, others-at}
 use Rattle.lengths.proofs.Laws.{nothing, one-vector, least-settled, others-settled, least-hits, least-misses, others-decide}

@@ -1,7 +1,7 @@
 -- `lengths::any_of` meets its contract. Assumes nothing.
 use mathlib.Core.Bool.{false}
 use borrow.Author.Needs.{needs}
-use Rattle.attempt.specs.Attempt.{equations}
+use Rattle.trails.specs.Equations.{equations}
 use Rattle.boxes.specs.Vectors.{tryOf}
 use Rattle.lengths.proofs.Laws.{any-found}
 use Rattle.lengths.proofs.any_of.Statement.{statement}

@@ -2,7 +2,7 @@
 use mathlib.Core.Path.{sym, subst}
 use mathlib.Core.Bool.{Bool, false}
 use borrow.Author.Needs.{needs}
-use Rattle.attempt.specs.Attempt.{equations}
+use Rattle.trails.specs.Equations.{equations}
 use Rattle.inequalities.specs.Rows.{Within}
 use Rattle.boxes.specs.Vectors.{Order, First, tryOf}
 use Rattle.lengths.proofs.Laws.{all-found}

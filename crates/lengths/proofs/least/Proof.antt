@@ -8,7 +8,7 @@ use borrow.Author.Needs.{needs}
 use borrow.Author.Tests.{not-true, not-false}
 use Rattle.model.proofs.Lists.{never}
 use Rattle.unification.specs.declared.Found.{Found}
-use Rattle.attempt.specs.Attempt.{equations}
+use Rattle.trails.specs.Equations.{equations}
 use Rattle.boxes.specs.Vectors.{Sooner, tryOf}
 use Rattle.lengths.proofs.Laws.{all-missed, short-total, shortest-first}
 use Rattle.lengths.proofs.least.Statement.{statement}

@@ -13,7 +13,7 @@ use Rattle.model.specs.Sheet.{Sheet, sheetOf}
 use Rattle.model.specs.Sheet as sheet
 use Rattle.model.specs.Range.{EquationIn}
 use Rattle.walk.specs.Walk.{Cells}
-use Rattle.attempt.specs.Attempt.{Equation, equations, cellTotal}
+use Rattle.trails.specs.Equations.{Equation, equations, cellTotal}
 use Rattle.inequalities.specs.Asked.{asked}
 use Rattle.inequalities.specs.Rows.{Within}
 use Rattle.inequalities.proofs.Asked.{asked-in}
