@@ -27,7 +27,7 @@ use Rattle.trails.proofs.Boards.{smaller-watches, narrow-watches, narrow-none}
 use Rattle.boxes.specs.declared.Left.{Left}
 use Rattle.boxes.specs.declared.Best.{Best}
 use Rattle.boxes.specs.Vectors.{Settled, Box, tryOf}
-use Rattle.boxes.specs.Boxes.{Twins, Smaller, Shrinks, taken, Answered, Betters, Finds}
+use Rattle.boxes.specs.Boxes.{Twins, Smaller, Shrinks, taken, Answered, Betters, Seeks}
 use Rattle.boxes.proofs.Tried.{try-same, tries, try-out}
 use Rattle.boxes.proofs.Parts.{Parting, least, others, least-within, others-within, parts}
 
@@ -194,7 +194,7 @@ module _ (es back : List Equation) (rows : List ℕ) (count : ℕ) (lo hi : List
           both x (inr a) = inr (wider two (others p) (left .hi) (one .below) (f .lower) (λ m c. out m (others-within p m c)) a)
 
 -- from no answer at all
-pub begun : (try : List ℕ → Found) (lo hi : List ℕ) (t u : ℕ) (shortest : Bool) (start r : Best) → start .found .ok ≡ false → start .below ≡ u → Betters try lo hi t shortest start r → Finds try lo hi t u shortest r
+pub begun : (try : List ℕ → Found) (lo hi : List ℕ) (t u : ℕ) (shortest : Bool) (start r : Best) → start .found .ok ≡ false → start .below ≡ u → Betters try lo hi t shortest start r → Seeks try lo hi t u shortest r
 begun try lo hi t u shortest start r not is b = record {
   none = b .none;
   missed = λ e. by-missed (b .outcome) e;

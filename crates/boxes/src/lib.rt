@@ -18,7 +18,7 @@ ghost use Rattle.trails.specs.Attempt.{attemptOf};
 ghost use Rattle.bounds.specs.Bounds.{sumOf, Some};
 ghost use Rattle.trails.specs.Board.{Watches};
 ghost use Rattle.boxes.specs.Vectors.{tryOf};
-ghost use Rattle.boxes.specs.Boxes.{Twins, Given, Shrinks, taken, Betters, Finds};
+ghost use Rattle.boxes.specs.Boxes.{Twins, Given, Shrinks, taken, Betters, Seeks};
 
 // What is left of a box, with its trails; not ok where there is nothing.
 pub struct Left {
@@ -197,7 +197,7 @@ pub fn seek(
     shortest: bool,
 ) -> Best
     requires { ⌜ Given (now x) (now y) (now w) (now rows) count × Some lo hi × Twins (equations (now x) (now w)) (equations (now y) (now w)) lo hi ⌝ }
-    ensures { λ r. ⌜ Finds (tryOf (equations (now (x .entry)) (now (w .entry))) (now (rows .entry)) count) lo hi t u shortest r ⌝ }
+    ensures { λ r. ⌜ Seeks (tryOf (equations (now (x .entry)) (now (w .entry))) (now (rows .entry)) count) lo hi t u shortest r ⌝ }
 {
     in_box(
         x,

@@ -20,7 +20,7 @@ use Rattle.inequalities.specs.Rows.{sideSum, rowHolds, slotOf, occurrenc
 use Rattle.inequalities.proofs.Weighed.{total-sum, total-one, total-net, leb-net, order-parts, sum-parts, product-parts}
 
 -- A row's test at the lengths of a substitution.
-pub row-test : (factor factor′ : ℕ → ℕ) (more more′ : ℕ) (g : Substitution)
+row-test : (factor factor′ : ℕ → ℕ) (more more′ : ℕ) (g : Substitution)
     → rowHolds (side factor more ++ side factor′ more′) (lengthsOf g) ≡ leb (total 6 (λ f. factor f * length (text g f)) + more) (total 6 (λ f. factor′ f * length (text g f)) + more′)
 unfolding rowHolds sideSum lengthsOf from total
 row-test factor factor′ more more′ g = refl

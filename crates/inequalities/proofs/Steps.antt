@@ -31,11 +31,6 @@ module _ (rows : List ℕ) (at : ℕ) (n : List ℕ) where
   unfolding sideSum
   side-done = refl
 
--- whether the row at an offset is hopeless
-pub row-at : (rows : List ℕ) (at : ℕ) (lo hi : List ℕ) → hopelessRow (drop at rows) lo hi ≡ ltb (sideSum (drop (at + 7) rows) hi) (sideSum (drop at rows) lo)
-unfolding hopelessRow
-row-at rows at lo hi = rw (drop-drop 7 at rows)
-
 -- the symbols of a template from index i on
 module _ (t : List ℕ) (k i : ℕ) where
   pub occurrences-turn : i < length t → occurrences (map symbolOf (drop i t)) k ≡ pick (eqb (slotOf (symbolOf (getD t i 0))) k) 1 0 + occurrences (map symbolOf (drop (i + 1) t)) k

@@ -14,7 +14,7 @@ use Rattle.bounds.specs.Bounds.{sumOf}
 use Rattle.bounds.proofs.Sums.{sum-grows}
 use Rattle.boxes.specs.declared.Best.{Best}
 use Rattle.boxes.specs.Vectors.{Settled, Box, Before, Sooner, Order, First}
-use Rattle.boxes.specs.Boxes.{Answered, Finds}
+use Rattle.boxes.specs.Boxes.{Answered, Seeks}
 use Rattle.boxes.proofs.Parts.{Parting, least, others, least-at, least-other, others-other, by-field, least-within, others-within, into-least, parts}
 
 module _ (try : List ℕ → Found) where
@@ -23,7 +23,7 @@ module _ (try : List ℕ → Found) where
   nothing C O r e none = record { hit = λ t. never (sym e ∙ t); miss = λ t m c. none m c }
 
   -- what `boxes` finds, of one total and of all
-  pub any-found : (lo hi : List ℕ) (t : ℕ) (shortest : Bool) (r : Best) → Finds try lo hi t (t + 1) shortest r → First try (Box lo hi t t) (Order false) (r .found)
+  pub any-found : (lo hi : List ℕ) (t : ℕ) (shortest : Bool) (r : Best) → Seeks try lo hi t (t + 1) shortest r → First try (Box lo hi t t) (Order false) (r .found)
   any-found lo hi t shortest r f = record {
     hit = λ e.
         let a = f .answered e in
@@ -31,7 +31,7 @@ module _ (try : List ℕ → Found) where
     miss = λ e m c. let u = f .missed e in f .none m (c .0) (c .1) (omega (arith, c .2));
   }
 
-  module _ (lo hi : List ℕ) (u : ℕ) (all : u ≡ sumOf hi + 1) (shortest : Bool) (r : Best) (f : Finds try lo hi 0 u shortest r) where
+  module _ (lo hi : List ℕ) (u : ℕ) (all : u ≡ sumOf hi + 1) (shortest : Bool) (r : Best) (f : Seeks try lo hi 0 u shortest r) where
     none-found : r .found .ok ≡ false → (m : List ℕ) → Within lo hi m → try m .ok ≡ false
     none-found e m c = let q = f .missed e in let high = sum-grows m hi (λ f h. c f h .1) in f .none m c (omega arith) (omega arith)
 
@@ -45,7 +45,7 @@ module _ (try : List ℕ → Found) where
     }
 
   -- below the total of the shortest nothing succeeds, and there something does: the first there is the first of all
-  module _ (lo hi : List ℕ) (u : ℕ) (r : Best) (f : Finds try lo hi 0 u true r) (ok : r .found .ok ≡ true) where
+  module _ (lo hi : List ℕ) (u : ℕ) (r : Best) (f : Seeks try lo hi 0 u true r) (ok : r .found .ok ≡ true) where
     abbrev answer : Answered try lo hi 0 u true r
     answer = f .answered ok
 
