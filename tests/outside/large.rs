@@ -1,20 +1,25 @@
 //! Large sheets, of which nobody can try all fillings: what the search says of each is held to what
 //! SAT solvers say of the library's clause file. The answers to the hard sheets are held to it too.
+//! That a clash which is given has the first lengths is asked as well: whether there is one sooner.
 
 use crate::hard;
+use crate::late::{self, Family, FAMILIES};
 use crate::met::Met;
 use crate::planted;
 use crate::question;
 use crate::random::Random;
-use crate::reader::Sheet;
+use crate::reader::{Rule, Sheet, MOST_RULES};
 use crate::report::{require, Hex};
-use crate::searches::{Searches, ROOMY};
+use crate::searches::{self, Searches, ROOMY};
 use crate::shapes;
 use crate::sheets;
 use crate::small;
 use crate::solver::{self, Answer, Solver};
+use crate::tally::Tally;
 
 const SHEETS: usize = 520;
+/// How many sheets of the families are asked about, where nothing else is said.
+pub const OF_FAMILIES: usize = 210;
 /// How many letters the fields must have room for, all together.
 const LEAST_PLACES: usize = 20;
 const PLANTED_PERCENT: usize = 50;
@@ -23,28 +28,161 @@ const SPOILED_PERCENT: usize = 55;
 /// How many sheets must clash and how many be apart, and how many of both have each shape.
 const LEAST_OF_EACH_ANSWER: usize = 200;
 const LEAST_OF_EACH_SHAPE: usize = 20;
+/// How many sheets of each family must clash and how many be apart, how many sheets must be told
+/// apart by a count, and of how many clashes it must be asked whether there is one sooner.
+const LEAST_OF_EACH_FAMILY: usize = 2;
+const LEAST_LOPSIDED: usize = 20;
+const LEAST_FIRST: usize = 100;
 
-pub fn run(solvers: &[Solver]) {
-    let mut searches = Searches::new("searches of large sheets", 0..0);
-    let mut met = Met::new(shapes::OF_LARGE);
-    for turn in 0..SHEETS {
-        let sheet = sheet(&mut searches.random);
-        let bytes = sheets::encode(&sheet);
-        let clash = ask(solvers, turn, &bytes);
-        searches.compare_in(&bytes, clash, &[ROOMY]);
-        met.count(&sheet, clash);
+/// What is asked, and what came up.
+struct Large<'a> {
+    solvers: &'a [Solver],
+    searches: Searches,
+    met: Met,
+    clash: Tally,
+    apart: Tally,
+    lopsided: usize,
+    first: usize,
+}
+
+/// Asks solvers about large sheets, and about so many of the families too.
+pub fn run(solvers: &[Solver], of_families: usize) {
+    let mut large = Large::new(solvers);
+    for _ in 0..SHEETS {
+        let sheet = sheet(&mut large.searches.random);
+        large.compare(&sheet);
     }
-    met.finish(LEAST_OF_EACH_ANSWER, LEAST_OF_EACH_SHAPE);
-    println!(
-        "outside: the search agrees with {} on {} large sheets: {} clash, {} apart; \
-         the slowest search took {:.3} s",
-        solver::names(solvers),
-        met.total(),
-        met.clash,
-        met.apart,
-        searches.slowest.as_secs_f64()
-    );
+    for family in FAMILIES.iter().cycle().take(of_families) {
+        large.compare_one_of(family);
+    }
+    large.finish();
     ask_about_hard_sheets(solvers);
+}
+
+impl Large<'_> {
+    fn new(solvers: &[Solver]) -> Large<'_> {
+        let names = FAMILIES.map(|family| family.name);
+        Large {
+            solvers,
+            searches: Searches::new("searches of large sheets", 0..0),
+            met: Met::new(shapes::OF_LARGE),
+            clash: Tally::new("clashing sheets of", &names, 0..0),
+            apart: Tally::new("apart sheets of", &names, 0..0),
+            lopsided: 0,
+            first: 0,
+        }
+    }
+
+    /// Compares the search with the solvers, and answers whether a sheet clashes.
+    fn compare(&mut self, sheet: &Sheet) -> bool {
+        let bytes = sheets::encode(sheet);
+        let clash = ask(self.solvers, self.met.total(), &bytes);
+        self.searches.compare_in(&bytes, clash, &[ROOMY]);
+        if clash {
+            self.require_first(sheet, &bytes);
+        }
+        if late::is_lopsided(sheet) {
+            require(
+                !clash,
+                "a count of symbols tells a sheet apart that clashes",
+                &[("sheet", &Hex(&bytes))],
+            );
+            self.lopsided += 1;
+        }
+        self.met.count(sheet, clash);
+        clash
+    }
+
+    fn compare_one_of(&mut self, family: &Family) {
+        let sheet = (family.make)(&mut self.searches.random);
+        let clash = self.compare(&sheet);
+        let answers = if clash {
+            &mut self.clash
+        } else {
+            &mut self.apart
+        };
+        answers.count(Ok(family.name));
+    }
+
+    /// Holds the clash that is given to the first lengths at which anything clashes: the search says
+    /// that nothing is sooner, and of a part of what would be so does a solver.
+    fn require_first(&mut self, sheet: &Sheet, bytes: &[u8]) {
+        let lengths = searches::lengths_given(bytes).expect("a clash");
+        let sooner = sooner(sheet, &lengths);
+        if sooner.is_empty() {
+            return;
+        }
+        let turn = self.met.total();
+        let asked = sheets::encode(&sooner[turn % sooner.len()]);
+        let solver = &self.solvers[turn % self.solvers.len()];
+        let clash = ask_one(solver, turn, &asked, &question::clauses(&asked));
+        let mut all = sooner.iter().map(sheets::encode);
+        require(
+            !clash && all.all(|sheet| searches::lengths_given(&sheet).is_none()),
+            "the clash that the search gives has not the first lengths",
+            &[
+                ("sheet", &Hex(bytes)),
+                ("lengths", &format!("{lengths:?}")),
+                ("asked", &Hex(&asked)),
+                ("clash", &clash),
+            ],
+        );
+        self.first += 1;
+    }
+
+    /// Prints how often each thing came up, and fails if one came up too seldom.
+    fn finish(&self) {
+        self.met.finish(LEAST_OF_EACH_ANSWER, LEAST_OF_EACH_SHAPE);
+        self.clash.finish_on_a_line(LEAST_OF_EACH_FAMILY);
+        self.apart.finish_on_a_line(LEAST_OF_EACH_FAMILY);
+        require(
+            self.lopsided >= LEAST_LOPSIDED && self.first >= LEAST_FIRST,
+            "too few large sheets are told apart by a count, or too few clashes are held to be first",
+            &[("by a count", &self.lopsided), ("first", &self.first)],
+        );
+        println!(
+            "outside: the search agrees with {} on {} large sheets: {} clash, {} apart; \
+             the slowest search took {:.3} s",
+            solver::names(self.solvers),
+            self.met.total(),
+            self.met.clash,
+            self.met.apart,
+            self.searches.slowest.as_secs_f64()
+        );
+        println!(
+            "outside: large sheets: {} are told apart by a count of symbols; \
+             nothing is sooner than {} of the clashes",
+            self.lopsided, self.first
+        );
+    }
+}
+
+/// Sheets that have together just what in a sheet clashes sooner than at these lengths: at a smaller
+/// total, or at the same with a shorter field 0, or field 1 and so on. None where everything is
+/// empty, and where a sheet has no room for a rule.
+fn sooner(sheet: &Sheet, lengths: &[u8]) -> Vec<Sheet> {
+    let total = sheets::total(lengths) as i16;
+    if total == 0 || sheet.rules.len() == MOST_RULES {
+        return Vec::new();
+    }
+    let within = |limits: Vec<u8>, limit| {
+        let coefficients = vec![1; limits.len()];
+        let mut sheet = sheet.clone();
+        sheet.limits = limits;
+        sheet.rules.push(Rule {
+            coefficients,
+            limit,
+        });
+        sheet
+    };
+    let mut all = vec![within(sheet.limits.clone(), total - 1)];
+    for field in (0..lengths.len()).filter(|&field| lengths[field] > 0) {
+        let mut limits = sheet.limits.clone();
+        limits[..field].copy_from_slice(&lengths[..field]);
+        limits[field] = lengths[field] - 1;
+        all.push(within(limits, total));
+    }
+    all
 }
 
 /// Holds the answers that are listed for the hard sheets to what the solvers say.
@@ -110,8 +248,7 @@ fn plain(random: &mut Random) -> Sheet {
     let makers: [fn(&mut Random) -> Sheet; 2] = [sheets::valid, sheets::largest];
     loop {
         let sheet = random.one_of(&makers)(random);
-        let places: usize = sheet.limits.iter().map(|&limit| usize::from(limit)).sum();
-        if places >= LEAST_PLACES {
+        if sheets::total(&sheet.limits) >= LEAST_PLACES {
             return sheet;
         }
     }

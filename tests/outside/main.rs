@@ -2,7 +2,9 @@
 //! each, and ends with status 1 at the first case on which the two differ. With the word `replies`
 //! it does so for replies, with `search` for the search, else for all other calls. With `solvers`
 //! and names of SAT solvers it gives the library's clause files to these, compares what they say
-//! with brute force and with the search, and gives their replies to the library.
+//! with brute force and with the search, and gives their replies to the library. With `large`, a
+//! number and names of solvers it only compares them with the search, on large sheets, and on so
+//! many of the families that `late` makes.
 //!
 //! With `fuzz` and a number it makes so many calls on inputs of all kinds, and holds their answers
 //! to what must be so whatever the input; with `--exact` after it nothing is lent with margins, so
@@ -29,6 +31,7 @@ mod fuzz;
 mod hard;
 mod inputs;
 mod large;
+mod late;
 mod lent;
 mod listed;
 mod met;
@@ -68,19 +71,22 @@ fn main() -> io::Result<()> {
         Some("replies") => replies::run(),
         Some("search") => searches::run(),
         Some("fuzz") => {
-            let calls = words.next().and_then(|word| word.parse().ok());
+            let calls = number(words.next());
             match words.next().as_deref() {
                 None => {}
                 Some("--exact") => lent::lend_exactly(),
                 Some(word) => panic!("no such option: {word}"),
             }
-            fuzz::run(calls.expect("a number of calls"));
+            fuzz::run(calls);
         }
         Some("solvers") => {
-            let solvers: Vec<Solver> = words.map(|name| solver::named(&name)).collect();
-            assert!(!solvers.is_empty(), "no solver is named");
+            let solvers = solvers(words);
             solving::run(&solvers);
-            large::run(&solvers);
+            large::run(&solvers, large::OF_FAMILIES);
+        }
+        Some("large") => {
+            let of_families = number(words.next());
+            large::run(&solvers(words), of_families);
         }
         Some("clauses") => writer::print(&input()?)?,
         Some("report") => {
@@ -90,6 +96,17 @@ fn main() -> io::Result<()> {
         Some(word) => panic!("no such word: {word}"),
     }
     Ok(())
+}
+
+fn number(word: Option<String>) -> usize {
+    let number = word.and_then(|word| word.parse().ok());
+    number.expect("a number")
+}
+
+fn solvers(names: impl Iterator<Item = String>) -> Vec<Solver> {
+    let solvers: Vec<Solver> = names.map(|name| solver::named(&name)).collect();
+    assert!(!solvers.is_empty(), "no solver is named");
+    solvers
 }
 
 /// All of standard input.

@@ -95,10 +95,7 @@ fn two(random: &mut Random, text: &[u8], filling: &Filling, limits: &[u8]) -> Op
 pub fn shuffle(random: &mut Random, sheet: &mut Sheet) {
     let l = sheet.letters.len();
     for pair in &mut sheet.pairs {
-        pair.right = pair.left.clone();
-        for place in 0..pair.right.len() {
-            pair.right.swap(place, random.below(pair.left.len()));
-        }
+        pair.right = shuffled(random, &pair.left);
         let is_letter = |symbol: &&mut Symbol| matches!(symbol, Symbol::Letter(_));
         if random.chance(50) {
             if let Some(symbol) = pair.right.iter_mut().find(is_letter) {
@@ -106,6 +103,15 @@ pub fn shuffle(random: &mut Random, sheet: &mut Sheet) {
             }
         }
     }
+}
+
+/// Symbols in another order.
+pub fn shuffled(random: &mut Random, symbols: &[Symbol]) -> Template {
+    let mut shuffled = symbols.to_vec();
+    for place in 0..symbols.len() {
+        shuffled.swap(place, random.below(symbols.len()));
+    }
+    shuffled
 }
 
 /// Makes each rule hold, often only just.
@@ -169,24 +175,51 @@ pub fn spoil(random: &mut Random, sheet: &mut Sheet) {
         *limit = limit.saturating_sub(1);
         return;
     }
-    let pair = random.below(sheet.pairs.len());
-    let pair = &mut sheet.pairs[pair];
-    let template = if random.chance(50) {
-        &mut pair.left
-    } else {
-        &mut pair.right
-    };
+    let l = sheet.letters.len();
+    let template = any_template(random, sheet);
     if template.is_empty() {
         return;
     }
     let symbol = random.below(template.len());
     match template[symbol] {
         Symbol::Letter(_) if random.chance(50) => {
-            template[symbol] = Symbol::Letter(random.below(sheet.letters.len()) as u8);
+            template[symbol] = Symbol::Letter(random.below(l) as u8);
         }
         _ if random.chance(50) => template.swap(symbol, 0),
         _ => {
             template.remove(symbol);
+        }
+    }
+}
+
+fn any_template<'a>(random: &mut Random, sheet: &'a mut Sheet) -> &'a mut Template {
+    let pair = random.below(sheet.pairs.len());
+    let pair = &mut sheet.pairs[pair];
+    if random.chance(50) {
+        &mut pair.left
+    } else {
+        &mut pair.right
+    }
+}
+
+/// Makes one template have another letter in the middle, in a sheet that has several.
+pub fn spoil_middle(random: &mut Random, sheet: &mut Sheet) {
+    let l = sheet.letters.len();
+    let template = any_template(random, sheet);
+    change_letter(random, template, l);
+}
+
+/// Makes the letter that is nearest to the middle another one of `l`, of which there are several;
+/// fields alone stay as they are.
+pub fn change_letter(random: &mut Random, symbols: &mut [Symbol], l: usize) {
+    let middle = symbols.len() / 2;
+    let mut places: Vec<usize> = (0..symbols.len()).collect();
+    places.sort_by_key(|place| place.abs_diff(middle));
+    for place in places {
+        if let Symbol::Letter(letter) = symbols[place] {
+            let further = random.within(1, l - 1);
+            symbols[place] = Symbol::Letter(((usize::from(letter) + further) % l) as u8);
+            return;
         }
     }
 }

@@ -6,8 +6,10 @@ use crate::fillings;
 use crate::reader::{Pair, Sheet};
 use crate::reply::Asked;
 use crate::report::{require, Hex};
+use crate::sheets;
 use crate::speller::{self, Filling, Verdict};
 use crate::writing::ROOMY;
+use std::collections::BTreeSet;
 
 pub struct Question {
     pub asked: Asked,
@@ -22,6 +24,9 @@ pub struct Tried {
     pub clash: bool,
     /// One of `REASONS`.
     pub reason: &'static str,
+    /// The totals and the lengths at which fillings clash, and so in the order of the search: by the
+    /// total, then the shorter field 0, field 1 and so on.
+    at: BTreeSet<(usize, Vec<u8>)>,
 }
 
 /// How an answer comes about.
@@ -32,6 +37,33 @@ pub const REASONS: [&str; 5] = [
     "apart, for the pairs together",
     "apart, for the rules",
 ];
+
+/// At how many lengths fillings clash.
+pub const SPREADS: [&str; 3] = [
+    "clash at one vector of lengths",
+    "clash at several, all of one total",
+    "clash at several totals",
+];
+
+impl Tried {
+    /// The lengths of the clash that the search is to give, if there is one.
+    pub fn first(&self) -> Option<&[u8]> {
+        self.at.first().map(|(_, lengths)| &lengths[..])
+    }
+
+    /// One of `SPREADS`, if there is a clash.
+    pub fn spread(&self) -> Option<&'static str> {
+        let (least, greatest) = (self.at.first()?, self.at.last()?);
+        let spread = if least == greatest {
+            "clash at one vector of lengths"
+        } else if least.0 == greatest.0 {
+            "clash at several, all of one total"
+        } else {
+            "clash at several totals"
+        };
+        Some(spread)
+    }
+}
 
 impl Question {
     pub fn new(bytes: &[u8]) -> Question {
@@ -49,7 +81,10 @@ pub fn try_all(sheet: &Sheet) -> Tried {
     let fillings = fillings::all(sheet);
     let judge = |filling| speller::judge(sheet, filling);
     let verdicts: Vec<Verdict> = fillings.iter().map(judge).collect();
-    let clash = verdicts.contains(&Verdict::Clash);
+    let judged = fillings.iter().zip(&verdicts);
+    let clashing = judged.filter(|(_, &verdict)| verdict == Verdict::Clash);
+    let at: BTreeSet<_> = clashing.map(|(filling, _)| lengths(filling)).collect();
+    let clash = !at.is_empty();
     let breaks = |verdict: &Verdict| matches!(verdict, Verdict::RuleBreaks(_));
     let agrees = |pair: &Pair| fillings.iter().any(|filling| agrees(pair, filling));
     let reason = match (clash, verdicts.iter().any(breaks)) {
@@ -59,7 +94,13 @@ pub fn try_all(sheet: &Sheet) -> Tried {
         (false, false) if sheet.pairs.iter().all(agrees) => "apart, for the pairs together",
         (false, false) => "apart, for one pair alone",
     };
-    Tried { clash, reason }
+    Tried { clash, reason, at }
+}
+
+/// The total and the lengths of a filling.
+fn lengths(filling: &Filling) -> (usize, Vec<u8>) {
+    let lengths: Vec<u8> = filling.iter().map(|text| text.len() as u8).collect();
+    (sheets::total(&lengths), lengths)
 }
 
 fn agrees(pair: &Pair, filling: &Filling) -> bool {

@@ -1,6 +1,7 @@
 //! The test of the search: sheets whose answer is known from elsewhere, most often from brute
-//! force. Which clash is given is free, so it is checked and not compared: by the plain checker,
-//! and by the library's own.
+//! force. The clash that is given is checked and not compared: by the plain checker, and by the
+//! library's own. Where all fillings were tried its lengths are compared too: they are the first at
+//! which anything clashes, by their total, then the shorter field 0, field 1 and so on.
 
 use crate::answers;
 use crate::engine;
@@ -10,7 +11,7 @@ use crate::hard;
 use crate::met::Met;
 use crate::planted;
 use crate::printed;
-use crate::question::{self, REASONS};
+use crate::question::{self, Tried, REASONS, SPREADS};
 use crate::random::Random;
 use crate::reader::{self, Sheet};
 use crate::refusal::Refusal;
@@ -23,15 +24,18 @@ use crate::tally::Tally;
 use crate::test;
 use std::time::{Duration, Instant};
 
-const SMALL: usize = 20_000;
+const SMALL: usize = 100_000;
 const FAR_PERCENT: usize = 20;
+const WIDE_PERCENT: usize = 10;
+const SPLIT_PERCENT: usize = 8;
 const PLANTED: usize = 2000;
 const REFUSED: usize = 60_000;
-/// How many small sheets must clash and how many be apart, and how many have each reason and each
-/// shape.
-const LEAST_OF_EACH_ANSWER: usize = 3000;
-const LEAST_OF_EACH_REASON: usize = 300;
-const LEAST_OF_EACH_SHAPE: usize = 100;
+/// How many small sheets must clash and how many be apart, and how many have each reason, each
+/// spread of lengths and each shape.
+const LEAST_OF_EACH_ANSWER: usize = 15_000;
+const LEAST_OF_EACH_REASON: usize = 1500;
+const LEAST_OF_EACH_SPREAD: usize = 500;
+const LEAST_OF_EACH_SHAPE: usize = 500;
 
 /// A buffer of 54 is to be long enough for every filling.
 pub const ROOMY: usize = 54;
@@ -148,6 +152,27 @@ fn due(sheet: &[u8], clash: bool, room: usize) -> Result<bool, Refusal> {
     Ok(clash)
 }
 
+/// The lengths of the clash that the search gives, if it gives one.
+pub fn lengths_given(sheet: &[u8]) -> Option<Vec<u8>> {
+    let got = engine::search(sheet, ROOMY);
+    let fields = got.lent[..filling_bytes(sheet)].chunks(FIELD_BYTES);
+    (got.status == 1).then(|| fields.map(|field| field[0]).collect())
+}
+
+/// Holds the lengths of the clash that the search gives to the first at which anything clashes.
+fn require_first(sheet: &[u8], tried: &Tried) {
+    let lengths = lengths_given(sheet);
+    require(
+        lengths.as_deref() == tried.first(),
+        "the clash that the search gives has not the first lengths",
+        &[
+            ("sheet", &Hex(sheet)),
+            ("lengths", &format!("{lengths:?}")),
+            ("first", &format!("{:?}", tried.first())),
+        ],
+    );
+}
+
 /// What is special about a filling that was found.
 fn kind(filling: &[u8]) -> &'static str {
     if filling.is_empty() {
@@ -238,6 +263,7 @@ fn all_buffers(searches: &mut Searches) {
     ] {
         let tried = question::try_all(&reader::accepted(sheet));
         searches.compare_in(sheet, tried.clash, &rooms);
+        require_first(sheet, &tried);
     }
 }
 
@@ -245,16 +271,23 @@ fn all_buffers(searches: &mut Searches) {
 fn small(searches: &mut Searches) {
     let mut met = Met::new(shapes::OF_SMALL);
     let mut reasons = Tally::new("small sheets", &REASONS, 0..0);
+    let mut spreads = Tally::new("small sheets", &SPREADS, 0..0);
     let examples = examples::sheets().into_iter().map(reader::accepted);
     let made = (0..SMALL).map(|_| small_sheet(&mut searches.random));
     let sheets: Vec<Sheet> = examples.chain(made).collect();
     for sheet in &sheets {
         let tried = question::try_all(sheet);
-        searches.compare(&sheets::encode(sheet), tried.clash);
+        let bytes = sheets::encode(sheet);
+        searches.compare(&bytes, tried.clash);
+        require_first(&bytes, &tried);
         met.count(sheet, tried.clash);
         reasons.count(Ok(tried.reason));
+        if let Some(spread) = tried.spread() {
+            spreads.count(Ok(spread));
+        }
     }
     reasons.finish_at(LEAST_OF_EACH_REASON);
+    spreads.finish_at(LEAST_OF_EACH_SPREAD);
     met.finish(LEAST_OF_EACH_ANSWER, LEAST_OF_EACH_SHAPE);
     println!(
         "outside: brute force agrees with the search on {} small sheets: {} clash, {} apart",
@@ -267,6 +300,10 @@ fn small(searches: &mut Searches) {
 fn small_sheet(random: &mut Random) -> Sheet {
     if random.chance(FAR_PERCENT) {
         small::far(random)
+    } else if random.chance(WIDE_PERCENT) {
+        small::wide(random)
+    } else if random.chance(SPLIT_PERCENT) {
+        small::split(random)
     } else {
         small::sheet(random)
     }

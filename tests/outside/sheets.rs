@@ -3,6 +3,7 @@
 
 use crate::random::Random;
 use crate::reader::*;
+use std::ops::RangeInclusive;
 
 /// Document 01's sheet P: one field of limit 1 against the letter A.
 pub const P: &[u8] = b"TPL\x00\x01\x01\x01\x01\x00A\x01\x01\x01\x80\x00";
@@ -49,6 +50,8 @@ fn symbol_byte(symbol: &Symbol) -> u8 {
 
 /// The most fillings of a small sheet: of three fields of limit 2, with three letters.
 const MOST_FILLINGS: usize = 2197;
+/// The most fillings of any sheet of which all are tried.
+const MOST_TRIED: usize = 20_000;
 
 /// How large a sheet is to be.
 struct Size {
@@ -102,11 +105,22 @@ pub fn small(random: &mut Random) -> Sheet {
 
 /// A valid sheet with at most 2197 fillings, with any counts and limits that allow it.
 pub fn of_few_fillings(random: &mut Random) -> Sheet {
+    of_fillings(random, 0..=MOST_FILLINGS, 6)
+}
+
+/// A valid sheet with counts and limits that allow more fillings, but at most 20,000.
+pub fn of_more_fillings(random: &mut Random) -> Sheet {
+    of_fillings(random, MOST_FILLINGS + 1..=MOST_TRIED, 8)
+}
+
+/// A valid sheet with counts and limits that allow so many fillings, and templates of at most so
+/// many symbols.
+fn of_fillings(random: &mut Random, fillings: RangeInclusive<usize>, symbols: usize) -> Sheet {
     let (l, v, greatest_limit) = loop {
         let l = count(random, 1, MOST_LETTERS);
         let v = count(random, 1, MOST_FIELDS);
         let limit = count(random, 1, usize::from(GREATEST_LIMIT));
-        if filling_count(l, v, limit) <= MOST_FILLINGS {
+        if fillings.contains(&filling_count(l, v, limit)) {
             break (l, v, limit as u8);
         }
     };
@@ -115,7 +129,7 @@ pub fn of_few_fillings(random: &mut Random) -> Sheet {
     let size = Size {
         counts: [l, v, e, r],
         greatest_limit,
-        symbols: [0, 6],
+        symbols: [0, symbols],
     };
     sheet_of(random, &size)
 }
@@ -124,6 +138,11 @@ pub fn of_few_fillings(random: &mut Random) -> Sheet {
 fn filling_count(l: usize, v: usize, limit: usize) -> usize {
     let texts: usize = (0..=limit as u32).map(|length| l.pow(length)).sum();
     texts.saturating_pow(v as u32)
+}
+
+/// All lengths, or all limits, together.
+pub fn total(lengths: &[u8]) -> usize {
+    lengths.iter().map(|&length| usize::from(length)).sum()
 }
 
 /// A number from `least` to `most`, often one of the two.
@@ -182,7 +201,7 @@ fn letters(random: &mut Random, l: usize) -> Vec<u8> {
 }
 
 /// A template of this many symbols and a width of at most 24, often just 24.
-fn template(random: &mut Random, symbols: usize, l: usize, limits: &[u8]) -> Template {
+pub fn template(random: &mut Random, symbols: usize, l: usize, limits: &[u8]) -> Template {
     let mut template = Vec::new();
     for to_come in (0..symbols).rev() {
         // Room for a letter is kept for each symbol to come, so that the width never ends above 24.

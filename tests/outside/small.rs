@@ -4,7 +4,7 @@
 use crate::fillings;
 use crate::planted;
 use crate::random::Random;
-use crate::reader::{Rule, Sheet};
+use crate::reader::{Pair, Rule, Sheet, Symbol, MOST_SYMBOLS};
 use crate::sheets;
 use crate::writer;
 
@@ -12,10 +12,21 @@ const NO_PLACES_PERCENT: usize = 25;
 const SPOILED_PERCENT: usize = 35;
 const NEW_LIMIT_PERCENT: usize = 25;
 
-/// A small sheet. In most one filling was made to clash, or two to fit some pairs each; then some
-/// were spoiled, and some rules came to have another limit.
+/// A small sheet.
 pub fn sheet(random: &mut Random) -> Sheet {
-    let mut sheet = plain(random);
+    let sheet = plain(random);
+    changed(random, sheet)
+}
+
+/// A sheet with more fillings than a small one, of which all can still be tried.
+pub fn wide(random: &mut Random) -> Sheet {
+    let sheet = sheets::of_more_fillings(random);
+    changed(random, sheet)
+}
+
+/// In most sheets one filling was made to clash, or two to fit some pairs each; then some were
+/// spoiled, and some rules came to have another limit.
+fn changed(random: &mut Random, mut sheet: Sheet) -> Sheet {
     match random.below(6) {
         0 => {}
         1 | 2 => {
@@ -48,6 +59,22 @@ pub fn far(random: &mut Random) -> Sheet {
         planted::spoil(random, &mut sheet);
     }
     planted::only_full(&mut sheet);
+    sheet
+}
+
+/// A small sheet that parts a text among all fields, so that most clashes have one total.
+pub fn split(random: &mut Random) -> Sheet {
+    let mut sheet = plain(random);
+    let filling = fillings::legal(random, &sheet);
+    let text = filling.concat();
+    if text.len() <= MOST_SYMBOLS {
+        sheet.pairs[0] = Pair {
+            left: (0..filling.len() as u8).map(Symbol::Field).collect(),
+            right: text.into_iter().map(Symbol::Letter).collect(),
+        };
+        sheet.pairs.truncate(1);
+        sheet.rules.truncate(1);
+    }
     sheet
 }
 

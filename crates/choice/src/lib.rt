@@ -1,5 +1,5 @@
 // Which field parts a box of lengths. It is one whose length is open; that is all that is promised. Which one, decides how fast the search is: one at which
-// an equation stands whose open fields occur the least, and at which most walks stand.
+// many walks stand, and better still an equation whose open fields occur the least.
 use fields::FIELDS;
 use fields::Lengths;
 use scan::wide;
@@ -203,15 +203,19 @@ fn rate(
     r
 }
 
-// How much speaks for a field: nothing, where it is not near or its length is not open.
+// How much speaks for a field: nothing, where no walk stands at it or its length is not open.
 fn worth(near: bool, score: u8, lo: u8, hi: u8) -> usize {
-    if !near {
+    if score == 0 {
         return 0;
     }
     if hi <= lo {
         return 0;
     }
-    16 * wide(score) + 256 - wide(hi - lo)
+    let points = 16 * wide(score) + 256 - wide(hi - lo);
+    if near {
+        return points + 64;
+    }
+    points
 }
 
 // The field for which most speaks, or 6.
