@@ -114,7 +114,7 @@ int64_t tpl_spell(const uint8_t *sheet, size_t n, uint64_t pair, uint64_t side, 
 
 /* Searches a sheet for a filling that clashes. Returns TPL_CLASH if there is one, with such a filling in the first TPL_FIELD_BYTES bytes per field
  * of the buffer of cap bytes and the later ones unchanged; where there are several, any of them. Returns TPL_APART if there is none, with no byte
- * changed. A buffer of TPL_FILLING_MOST is always long enough. The slowest sheets that are known take a quarter of a second.
+ * changed. A buffer of TPL_FILLING_MOST is always long enough. The slowest sheets that are known take some hundredths of a second.
  * Or it returns minus the number of the first refusal, which is one of tpl_read's, or else:
  *   TPL_BUFFER_BELOW_FILLING
  */

@@ -1,5 +1,5 @@
-// A question to the search, and an answer where there is one: lengths in ranges, and some of a sheet's equations and constraints. `lengths` orders
-// lengths, with walks of the equations from both ends, and at each vector of lengths `attempt` walks them, as document 000's automaton does under fixed lengths.
+// A question to the search, and an answer where there is one: lengths in ranges, and some of a sheet's equations and constraints. Cells and rows are made
+// here once; `lengths` then goes through boxes of lengths, in which the equations are walked from both ends, as document 000's automaton does.
 use fields::Lengths;
 use inequalities::Marks;
 use inequalities::ROOM;
