@@ -34,6 +34,12 @@ pub struct Best {
     pub below: u16,
 }
 
+// The best answer after a box, and the equation that failed last: it is the next to look at.
+struct Searched {
+    best: Best,
+    last: u8,
+}
+
 // What the type says of six lengths, for the proofs of functions that call it: they are handed back unchanged.
 pub fn six(n: Lengths) -> Lengths
     ensures { λ r. ⌜ (r ≡ n) × (length n ≡ 6) ⌝ }
@@ -127,29 +133,39 @@ fn in_box(
     t: u16,
     best: Best,
     shortest: bool,
-) -> Best
+    last: u8,
+) -> Searched
     requires { ⌜ Given (now x) (now y) (now w) (now rows) count × Some lo hi × Twins (equations (now x) (now w)) (equations (now y) (now w)) lo hi × Watches (equations (now x) (now w)) (equations (now y) (now w)) lo hi b ⌝ }
-    ensures { λ r. ⌜ Betters (tryOf (equations (now (x .entry)) (now (w .entry))) (now (rows .entry)) count) lo hi t shortest best r ⌝ }
+    ensures { λ r. ⌜ Betters (tryOf (equations (now (x .entry)) (now (w .entry))) (now (rows .entry)) count) lo hi t shortest best (r .best) ⌝ }
 {
     if best.below <= t {
-        return best;
+        return Searched {
+            best: best,
+            last: last,
+        };
     }
     let left = shrink(x, y, w, rows, count, b, lo, hi, t, best.below - 1);
+    let board = left.board;
     if !left.ok {
-        return best;
+        return Searched {
+            best: best,
+            last: choice::failed(board, last),
+        };
     }
     let low = left.lo;
     let high = left.hi;
-    let board = left.board;
-    let k = choice::choose(x, y, w, uses, board, low, high);
+    let k = choice::choose(x, y, w, uses, board, low, high, last);
     if k == FIELDS {
-        return at_vector(x, w, low, best, shortest);
+        return Searched {
+            best: at_vector(x, w, low, best, shortest),
+            last: last,
+        };
     }
     let known = six(low);
     let known_too = six(high);
     let mut least = high;
     least[k] = low[k];
-    let better = in_box(
+    let first = in_box(
         x,
         y,
         w,
@@ -162,7 +178,9 @@ fn in_box(
         t,
         best,
         shortest,
+        last,
     );
+    let better = first.best;
     let most = wide(high[k]);
     let mut others = low;
     others[k] = low[k] + 1;
@@ -179,6 +197,7 @@ fn in_box(
         t,
         better,
         shortest,
+        first.last,
     )
 }
 
@@ -212,5 +231,6 @@ pub fn seek(
         t,
         none_yet(u),
         shortest,
-    )
+        4,
+    ).best
 }

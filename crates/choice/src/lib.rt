@@ -1,5 +1,5 @@
 // Which field parts a box of lengths. It is one whose length is open; that is all that is promised. Which one, decides how fast the search is: one at which
-// many walks stand, and better still an equation whose open fields occur the least.
+// many walks stand, and better still the equation that failed last, or one whose open fields occur the least.
 use fields::FIELDS;
 use fields::Lengths;
 use scan::wide;
@@ -175,6 +175,16 @@ fn noted(c: Choice, f: usize, h: usize, n: usize) -> Choice
     c
 }
 
+// How far equation q is from its end: the uses of open fields, and nothing for the one that failed last.
+fn distance(n: Uses, q: usize, last: u8, lo: Lengths, hi: Lengths) -> usize
+    requires { ⌜ q < 4 ⌝ }
+{
+    if q == wide(last) {
+        return 0;
+    }
+    open_uses(n, 6 * q, lo, hi)
+}
+
 // What a trail, which stands at these cells, says.
 fn rate(
     x: &[u8],
@@ -183,6 +193,7 @@ fn rate(
     at: [u8; 8],
     lo: Lengths,
     hi: Lengths,
+    last: u8,
     c: Choice,
 ) -> Choice {
     let mut r = c;
@@ -196,7 +207,7 @@ fn rate(
         let e = m + wide(w[q + 1]);
         let f = held(x, o, at[q], w[q], lo, hi);
         let h = held(x, m, at[q + 1], w[q + 1], lo, hi);
-        r = noted(r, f, h, open_uses(uses, 3 * q, lo, hi));
+        r = noted(r, f, h, distance(uses, q / 2, last, lo, hi));
         o = e;
         q += 2;
     }
@@ -213,7 +224,7 @@ fn worth(near: bool, score: u8, lo: u8, hi: u8) -> usize {
     }
     let points = 16 * wide(score) + 256 - wide(hi - lo);
     if near {
-        return points + 64;
+        return points + 1000;
     }
     points
 }
@@ -265,9 +276,31 @@ fn near(f: usize, lo: Lengths, hi: Lengths) -> usize
     open_field(lo, hi)
 }
 
+// The equation that failed, where the board is not ok; else that which failed before.
+pub fn failed(b: Board, last: u8) -> u8 {
+    if b.ok {
+        return last;
+    }
+    let t = b.ahead;
+    if !t.ok {
+        return t.last;
+    }
+    let u = b.behind;
+    u.last
+}
+
 // The field that parts the box from lo to hi, whose walks stand where the board tells; 6 where all lengths are settled. x has the cells of the equations, y
-// those of the equations reversed, and w their widths.
-pub fn choose(x: &[u8], y: &[u8], w: &[u8], uses: Uses, b: Board, lo: Lengths, hi: Lengths) -> usize
+// those of the equations reversed, w their widths, and `last` is the equation that failed last.
+pub fn choose(
+    x: &[u8],
+    y: &[u8],
+    w: &[u8],
+    uses: Uses,
+    b: Board,
+    lo: Lengths,
+    hi: Lengths,
+    last: u8,
+) -> usize
     requires { ⌜ ((f : ℕ) → f < 6 → getD lo f 0 ≤ getD hi f 0) ⌝ }
     ensures { λ r. ⌜ Chosen lo hi r ⌝ }
 {
@@ -280,8 +313,8 @@ pub fn choose(x: &[u8], y: &[u8], w: &[u8], uses: Uses, b: Board, lo: Lengths, h
         near: [true; 7],
         score: [0; 7],
     };
-    let one = rate(x, w, uses, there, lo, hi, none);
-    let both = rate(y, w, uses, back, lo, hi, one);
+    let one = rate(x, w, uses, there, lo, hi, last, none);
+    let both = rate(y, w, uses, back, lo, hi, last, one);
     let f = best_field(both, lo, hi);
     near(f, lo, hi)
 }

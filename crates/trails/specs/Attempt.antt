@@ -12,7 +12,7 @@ use Rattle.trails.specs.Trail.{walkAll, noCells}
 
 -- the box of the lengths n alone: no place is open, no letter is known, and no cell is passed
 abbrev pub startTrail : List ℕ → Trail
-startTrail n = record { ok = true; substitution = startOf n; at = noCells }
+startTrail n = record { ok = true; last = 4; substitution = startOf n; at = noCells }
 
 -- what is left open takes letter 0
 abbrev pub settledTrail : Trail → Found

@@ -25,6 +25,7 @@ use Rattle.boxes.proofs.at_vector.Reads as at-vector-reads
 use Rattle.boxes.proofs.shrink.Reads as shrink-reads
 use Rattle.boxes.proofs.six.Reads as six-reads
 use Rattle.choice.proofs.choose.Reads as choose-reads
+use Rattle.choice.proofs.failed.Reads as failed-reads
 use Rattle.scan.proofs.wide.Reads as wide-reads
 use Rattle.boxes.proofs.+in_box.{statement}
 use Rattle.boxes.proofs.+in_box.Tie.{close}
@@ -42,6 +43,8 @@ abbrev claims : ℕ → in-box-lts.Claims
 claims t = (
   shrink-reads.Asked,
   shrink-reads.Learnt,
+  failed-reads.Asked,
+  failed-reads.Learnt,
   choose-reads.Asked,
   choose-reads.Learnt,
   at-vector-reads.Asked,
@@ -63,7 +66,7 @@ module _ (t : ℕ) where
   Shrunk = in-box-lts.After-shrink (claims t) (in-box-at t) in-box.Post
 
   abbrev Kept : Type 0
-  Kept = in-box-lts.After-board (claims t) (in-box-at t) in-box.Post
+  Kept = in-box-lts.After-high (claims t) (in-box-at t) in-box.Post
 
   abbrev Parted : Type 0
   Parted = in-box-lts.After-six2 (claims t) (in-box-at t) in-box.Post
@@ -93,7 +96,7 @@ module _ (t : ℕ) where
   high c = shrunk c .shrink .result .hi
 
   some : (c : Kept) → shrunk c .shrink .result .ok ≡ true
-  some c = not-false _ (c .before .before .before .if2 .left)
+  some c = not-false _ (c .before .before .if2 .left)
 
   smaller : (c : Kept)
       → let s = start (shrunk c) in
@@ -138,12 +141,15 @@ in-box-sub-shrink t c = let more = c .before .if1 .left in omega arith
 in-box-shrink-requires : (t : ℕ) → in-box-lts.Need-shrink-requires (claims t) (in-box-at t) in-box.Post
 in-box-shrink-requires t c κs = c .before .before .before .before .before .before .before .pre .1
 
+in-box-failed-requires : (t : ℕ) → in-box-lts.Need-failed-requires (claims t) (in-box-at t) in-box.Post
+in-box-failed-requires t c κs = tt
+
 in-box-returns-2 : (t : ℕ) → in-box-lts.Need-returns-2 (claims t) (in-box-at t) in-box.Post
 in-box-returns-2 t c =
-    let d = c .before .before in
+    let d = c .before .before .before .before in
     let s = start t d in
     let a = s .args in
-    cut (es t s) (back t s) (a .rows .now) (a .count) (a .lo) (a .hi) (a .t) (a .best) (a .shortest) (asked t d) (d .shrink .result) (d .shrink .ensures) (not-true _ (c .if2 .taken))
+    cut (es t s) (back t s) (a .rows .now) (a .count) (a .lo) (a .hi) (a .t) (a .best) (a .shortest) (asked t d) (d .shrink .result) (d .shrink .ensures) (not-true _ (c .before .if2 .taken))
 
 in-box-choose-requires : (t : ℕ) → in-box-lts.Need-choose-requires (claims t) (in-box-at t) in-box.Post
 in-box-choose-requires t c κs = ranges t c
@@ -185,26 +191,26 @@ in-box-in-box-requires t c κs =
     )
 
 in-box-array-read-wide : (t : ℕ) → in-box-lts.Need-array-read-wide (claims t) (in-box-at t) in-box.Post
-in-box-array-read-wide t c = parting t (c .before) .inside
+in-box-array-read-wide t c = parting t (c .before .before) .inside
 
 in-box-wide-requires : (t : ℕ) → in-box-lts.Need-wide-requires (claims t) (in-box-at t) in-box.Post
 in-box-wide-requires t c κs = tt
 
 in-box-array-read-others : (t : ℕ) → in-box-lts.Need-array-read-others (claims t) (in-box-at t) in-box.Post
-in-box-array-read-others t c = parting t (c .before .before) .inside
+in-box-array-read-others t c = parting t (c .before .before .before) .inside
 
 in-box-add-others : (t : ℕ) → in-box-lts.Need-add-others (claims t) (in-box-at t) in-box.Post
 in-box-add-others t c =
-    let longer = more t (c .before .before) in
+    let longer = more t (c .before .before .before) in
     let byte = c .wide .ensures in
     omega (arith, byte .0, byte .1)
 
 in-box-array-write-others : (t : ℕ) → in-box-lts.Need-array-write-others (claims t) (in-box-at t) in-box.Post
-in-box-array-write-others t c = parting t (c .before .before) .inside
+in-box-array-write-others t c = parting t (c .before .before .before) .inside
 
 in-box-in-box-requires-2 : (t : ℕ) → in-box-lts.Need-in-box-requires-2 (claims t) (in-box-at t) in-box.Post
 in-box-in-box-requires-2 t c κs =
-    let q = c .before .before in
+    let q = c .before .before .before in
     let k = left-over t q in
     let s = start t (shrunk t k) in
     let p = parting t q in
@@ -216,14 +222,14 @@ in-box-in-box-requires-2 t c κs =
 
 in-box-returns-4 : (t : ℕ) → in-box-lts.Need-returns-4 (claims t) (in-box-at t) in-box.Post
 in-box-returns-4 t c =
-    let first = c .before .before in
+    let first = c .before .before .before in
     let q = first .before in
     let k = left-over t q in
     let d = shrunk t k in
     let s = start t d in
     let a = s .args in
     parted (es t s) (back t s) (a .rows .now) (a .count) (a .lo) (a .hi) (a .t) (a .best) (a .shortest) (asked t d) (d .shrink .result) (d .shrink .ensures) (some t k)
-    (q .before .before .before .choose .result) (parting t q) (first .in-box .result) (c .in-box2 .result) (first .in-box .ensures) (c .in-box2 .ensures)
+    (q .before .before .before .choose .result) (parting t q) (first .in-box .result .best) (c .in-box2 .result .best) (first .in-box .ensures) (c .in-box2 .ensures)
 
 pub +in-box-spec : {M : Type 1} → statement M
 +in-box-spec = close μ-in-box λ t. in-box-lts.spec (claims t)
@@ -232,6 +238,7 @@ pub +in-box-spec : {M : Type 1} → statement M
     (in-box-returns t)
     (in-box-sub-shrink t)
     (in-box-shrink-requires t)
+    (in-box-failed-requires t)
     (in-box-returns-2 t)
     (in-box-choose-requires t)
     (in-box-at-vector-requires t)

@@ -33,10 +33,11 @@ in-box-requires c κs =
 
 returns : tie.Need-returns
 returns c =
-    let from = c .before in
+    let searched = c .before in
+    let from = searched .before in
     let a = from .before .before .before .before .before .before .args in
-    begun (tryOf (equations (a .x .now) (a .w .now)) (a .rows .now) (a .count)) (a .lo) (a .hi) (a .t) (a .u) (a .shortest) (from .none-yet .result) (c .in-box .result)
-    (from .none-yet .ensures .0) (from .none-yet .ensures .1) (c .in-box .ensures)
+    begun (tryOf (equations (a .x .now) (a .w .now)) (a .rows .now) (a .count)) (a .lo) (a .hi) (a .t) (a .u) (a .shortest) (from .none-yet .result) (searched .in-box .result .best)
+    (from .none-yet .ensures .0) (from .none-yet .ensures .1) (searched .in-box .ensures)
 
 pub seek-spec : {M : Type 1} → statement M
 seek-spec = tie.close (tie.spec open-board-requires none-yet-requires in-box-requires returns)

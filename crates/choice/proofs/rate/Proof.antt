@@ -6,10 +6,10 @@ use Rattle.choice.proofs.rate.Statement.{statement}
 use Rattle.choice.proofs.rate.Tie as tie
 
 abbrev Inv-loop : tie.InvT-loop
-Inv-loop x w uses lo hi at r₀ o₀ q₀ r o q = (q ≤ 8) × (o ≤ 256 * q)
+Inv-loop x w uses lo hi last at r₀ o₀ q₀ r o q = (q ≤ 8) × (o ≤ 256 * q)
 
 abbrev μ-loop : tie.MeasureT-loop
-μ-loop x w uses lo hi at r₀ o₀ q₀ r o q = 8 - q
+μ-loop x w uses lo hi last at r₀ o₀ q₀ r o q = 8 - q
 
 loop-holds : tie.Need-loop-holds Inv-loop μ-loop
 loop-holds c = (omega arith, omega arith)
@@ -65,11 +65,8 @@ shared-slice-read-held-2 c = search needs
 held-requires-2 : tie.Need-held-requires-2 Inv-loop μ-loop
 held-requires-2 c κs = search needs
 
-mul-open-uses : tie.Need-mul-open-uses Inv-loop μ-loop
-mul-open-uses c = search needs
-
-open-uses-requires : tie.Need-open-uses-requires Inv-loop μ-loop
-open-uses-requires c κs = search needs
+distance-requires : tie.Need-distance-requires Inv-loop μ-loop
+distance-requires c κs = search needs
 
 noted-requires : tie.Need-noted-requires Inv-loop μ-loop
 noted-requires c κs = search needs
@@ -110,8 +107,7 @@ rate-spec =
     add-held-2
     shared-slice-read-held-2
     held-requires-2
-    mul-open-uses
-    open-uses-requires
+    distance-requires
     noted-requires
     add-q
     loop-less
