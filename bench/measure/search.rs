@@ -11,8 +11,8 @@ use crate::timing::{milliseconds, Effort, Timing};
 use crate::{fail, progress, save, Setting};
 use std::process::Command;
 
-/// The search may take this long, in milliseconds, where cadical is faster.
-const ALLOWED: f64 = 10.0;
+/// The search may take this long, in milliseconds, where a solver is faster.
+const ALLOWED: f64 = 3.0;
 
 pub const CADICAL: &str = "cadical";
 const SOLVERS: [&str; 3] = [CADICAL, "z3", "cvc5"];
@@ -69,10 +69,10 @@ fn one_table(setting: &Setting, all: &[Asked]) -> String {
         "answer",
         "search",
         CADICAL,
-        "at most",
-        "search / at most",
         "z3",
         "cvc5",
+        "at most",
+        "search / at most",
     ];
     let mut rows = Vec::new();
     let mut ratios = Vec::new();
@@ -86,9 +86,10 @@ fn one_table(setting: &Setting, all: &[Asked]) -> String {
         let answered = ask(setting.effort, &asked.sheet, &setting.solvers, asked.clash);
         let answer = if answered.clash { "clash" } else { "apart" };
         let shown: Vec<String> = answered.solvers.iter().map(told).collect();
-        let (most, ratio) = match &answered.solvers[0] {
-            Some(cadical) => {
-                let most = cadical.milliseconds().max(ALLOWED);
+        let times_of_solvers = answered.solvers.iter().flatten().map(Timing::milliseconds);
+        let (most, ratio) = match times_of_solvers.reduce(f64::min) {
+            Some(fastest) => {
+                let most = fastest.max(ALLOWED);
                 let ratio = answered.search.milliseconds() / most;
                 ratios.push(ratio);
                 (milliseconds(most), times(ratio))
@@ -101,10 +102,10 @@ fn one_table(setting: &Setting, all: &[Asked]) -> String {
             answer,
             &search,
             &shown[0],
-            &most,
-            &ratio,
             &shown[1],
             &shown[2],
+            &most,
+            &ratio,
         ];
         rows.push(cells.map(str::to_string).to_vec());
     }
