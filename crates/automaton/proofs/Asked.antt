@@ -1,11 +1,11 @@
 -- The question of a whole sheet: it may be asked, and its answers are the sheet's solutions. Assumes nothing.
 use mathlib.Core.Path.{_≡_, refl, ap, sym, subst, _∙_}
 use mathlib.Core.List.{List}
-use Prim.Native.Nat.{ℕ, zero, suc, _≤_}
+use Prim.Native.Nat.{ℕ, zero, suc}
 use native.Mathlib.Omega.{arith}
-use lib.ListN.{length, getD, replicate}
+use lib.ListN.{getD, replicate}
 use Rattle.model.specs.Lists.{All}
-use Rattle.model.specs.Sheet.{Sheet, Equation, Constraint, sheetOf}
+use Rattle.model.specs.Sheet.{Sheet, sheetOf}
 use Rattle.model.specs.Range.{Admitted}
 use Rattle.model.specs.Word.{Substitution, EquationHolds, ConstraintHolds, Solves}
 use Rattle.model.proofs.Words.{keeps-every}

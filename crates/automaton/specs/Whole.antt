@@ -15,7 +15,7 @@ use Rattle.question.specs.declared.Ask.{Ask}
 abbrev pub allMarked : List Bool
 allMarked = true ∷ true ∷ true ∷ true ∷ []
 
--- every text from none to its limit, and all equations and constraints
+-- every length from 0 to its field's limit, and all equations and constraints
 pub record Whole (s : Sheet) (a : Ask) : Type 0 where
   pub from-none : (f : ℕ) → f < 6 → getD (a .lo) f 0 ≡ 0
   pub to-limits : (f : ℕ) → f < 6 → getD (a .hi) f 0 ≡ limit s f

@@ -5,7 +5,7 @@ use mathlib.Core.List.{List, [], _∷_}
 use mathlib.Core.Logic.{_⊎_, inl, inr}
 use Prim.Native.Nat.{ℕ, _+_, _*_, _-_, _<_, _≤_}
 use native.Mathlib.Omega.{arith}
-use lib.ListN.{getD, length, set, drop}
+use lib.ListN.{getD, length, drop}
 use borrow.Author.Tests.{leb-true}
 use Rattle.model.specs.Lists.{pick, from, upTo, total}
 use Rattle.model.proofs.Lists.{never, by-test, all-out, below-out}
@@ -17,7 +17,7 @@ use Rattle.trails.specs.Attempt.{attemptOf}
 use Rattle.inequalities.specs.Rows.{sideSum, rowHolds, hopelessRow, rowsHold, Within}
 use Rattle.inequalities.proofs.Boxes.{hopeful-row}
 use Rattle.bounds.specs.declared.Ranges.{Ranges}
-use Rattle.bounds.specs.Bounds.{sumOf, Some, Inside, Closed, Tightened, totalRows, ClosedTotal}
+use Rattle.bounds.specs.Bounds.{sumOf, Inside, Closed, Tightened, totalRows, ClosedTotal}
 use Rattle.bounds.proofs.Sums.{sum-grows}
 use Rattle.bounds.proofs.Excluded.{hopeless-excludes}
 use Rattle.bounds.proofs.Widest.{Same, total-closed, vector-within, empty-none-total}

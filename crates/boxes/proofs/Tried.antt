@@ -2,10 +2,10 @@
 use mathlib.Core.Path.{_≡_, refl, ap₂}
 use mathlib.Core.Bool.{Bool, true, false}
 use mathlib.Core.List.{List}
-use Prim.Native.Nat.{ℕ, _*_, _<_}
+use Prim.Native.Nat.{ℕ, _*_}
 use native.Mathlib.Omega.{arith}
 use lib.Dec.{leb}
-use lib.ListN.{getD, drop}
+use lib.ListN.{drop}
 use Rattle.model.proofs.Lists.{never}
 use Rattle.model.proofs.Keeping.{all-same}
 use Rattle.trails.specs.Equations.{Equation}

@@ -1,6 +1,6 @@
 // The search in boxes of lengths. A box is every vector from `lo` to `hi`; its ranges are shortened by the rows and by the totals that are asked for, and its
-// two trails are walked as far as they go. A box is cut where nothing is left of a range, or where a walk fails; else it is parted by the length of one
-// field, which `choice` names.
+// two trails are walked as far as they go. A box is cut where nothing is left of a range, or where a walk fails; a box of one vector is tried; any other is
+// parted by the length of one field, which `choice` names.
 use choice::Uses;
 use fields::EMPTY;
 use fields::FIELDS;
@@ -67,7 +67,7 @@ fn none_yet(u: u16) -> Best
     }
 }
 
-// All that follows for a box and totals from t to u.
+// What is left of a box for totals from t to u. The ranges are the widest; how far the trails come is not promised, and bears on time alone.
 fn shrink(
     x: &[u8],
     y: &[u8],
@@ -181,6 +181,7 @@ fn in_box(
         last,
     );
     let better = first.best;
+    // for the proof: the least length is below a byte's greatest number
     let most = wide(high[k]);
     let mut others = low;
     others[k] = low[k] + 1;
@@ -231,6 +232,6 @@ pub fn seek(
         t,
         none_yet(u),
         shortest,
-        4,
+        trails::EQUATIONS,
     ).best
 }

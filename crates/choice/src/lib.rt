@@ -1,10 +1,9 @@
-// Which field parts a box of lengths. It is one whose length is open; that is all that is promised. Which one, decides how fast the search is: one at which
-// many walks stand, and better still the equation that failed last, or one whose open fields occur the least.
+// Which field parts a box of lengths. It is one whose length is open; that is all that is promised. Which one decides how fast the search is: best is a field
+// at which the equation that failed last stands, or else one whose open fields are used the fewest times; then one at which many walks stand.
 use fields::FIELDS;
 use fields::Lengths;
 use scan::wide;
 use trails::Board;
-ghost use mathlib.Core.Path.{_≡_};
 ghost use Prim.Native.Nat.{ℕ, _+_, _<_, _≤_};
 ghost use lib.ListN.{getD};
 ghost use Rattle.choice.specs.Chosen.{Chosen};
@@ -12,8 +11,7 @@ ghost use Rattle.choice.specs.Chosen.{Chosen};
 // How often equation q has field f, at 6 × q + f.
 pub type Uses = [u8; 24];
 
-// What speaks for each field: how often walks stand at it, and whether it is near, one of those at which an equation with the fewest uses of open fields
-// stands. Index 6 is for no field.
+// What speaks for each field: how often walks stand at it, and whether it is near: an equation of the least distance stands at it. Index 6 is for no field.
 struct Choice {
     fewest: usize,
     near: [bool; 7],
@@ -123,7 +121,7 @@ fn open_uses(n: Uses, at: usize, lo: Lengths, hi: Lengths) -> usize
         + open(n[at + 5], lo[5], hi[5])
 }
 
-// Who is near already, where an equation has n uses of open fields.
+// Which fields are near still, where an equation of distance n comes.
 fn still_near(c: Choice, n: usize) -> [bool; 7] {
     if n < c.fewest {
         return [false; 7];
@@ -131,7 +129,7 @@ fn still_near(c: Choice, n: usize) -> [bool; 7] {
     c.near
 }
 
-// An equation with n uses of open fields stands at the fields f and h.
+// An equation of distance n stands at the fields f and h.
 fn marked(c: Choice, f: usize, h: usize, n: usize, points: u8) -> Choice
     requires { ⌜ (f ≤ 6) × (h ≤ 6) × (points < 8) ⌝ }
 {
@@ -159,7 +157,7 @@ fn marked(c: Choice, f: usize, h: usize, n: usize, points: u8) -> Choice
     }
 }
 
-// So if it stands at one at all; one field alone counts for more.
+// The same, if it stands at an open field at all; where it stands at one alone, that counts for more.
 fn noted(c: Choice, f: usize, h: usize, n: usize) -> Choice
     requires { ⌜ (f ≤ 6) × (h ≤ 6) ⌝ }
 {
@@ -175,7 +173,7 @@ fn noted(c: Choice, f: usize, h: usize, n: usize) -> Choice
     c
 }
 
-// How far equation q is from its end: the uses of open fields, and nothing for the one that failed last.
+// The distance of equation q: the uses of its open fields, or 0 for the one that failed last.
 fn distance(n: Uses, q: usize, last: u8, lo: Lengths, hi: Lengths) -> usize
     requires { ⌜ q < 4 ⌝ }
 {
@@ -263,7 +261,7 @@ fn open_field(lo: Lengths, hi: Lengths) -> usize
 }
 
 // Field f, if its length is open; else another one.
-fn near(f: usize, lo: Lengths, hi: Lengths) -> usize
+fn or_open(f: usize, lo: Lengths, hi: Lengths) -> usize
     requires { ⌜ ((f : ℕ) → f < 6 → getD lo f 0 ≤ getD hi f 0) ⌝ }
     ensures { λ r. ⌜ Chosen lo hi r ⌝ }
 {
@@ -316,5 +314,5 @@ pub fn choose(
     let one = rate(x, w, uses, there, lo, hi, last, none);
     let both = rate(y, w, uses, back, lo, hi, last, one);
     let f = best_field(both, lo, hi);
-    near(f, lo, hi)
+    or_open(f, lo, hi)
 }

@@ -4,13 +4,13 @@ use mathlib.Core.List.{List, map}
 use Prim.Native.Nat.{ℕ, _+_, _*_, _<_, _≤_}
 use native.Mathlib.Numerals.{add-one}
 use native.Mathlib.Omega.{arith}
-use lib.Dec.{ltb, eqb}
+use lib.Dec.{eqb}
 use lib.ListN.{length, getD, drop, drop-of-length-le}
-use lib.Seq.{drop-cons, drop-drop, getD-drop}
+use lib.Seq.{drop-cons, getD-drop}
 use Rattle.model.specs.Lists.{pick, total}
 use Rattle.model.specs.Sheet.{symbolOf}
 use Rattle.model.proofs.Keeping.{total-more}
-use Rattle.inequalities.specs.Rows.{sideSum, hopelessRow, slotOf, occurrences}
+use Rattle.inequalities.specs.Rows.{sideSum, slotOf, occurrences}
 
 -- A side of a row at an offset, the first k fields summed: none, one more, and all.
 abbrev pub sideTo : List ℕ → ℕ → List ℕ → ℕ → ℕ

@@ -50,7 +50,7 @@ excess more less k = occurrences more k - occurrences less k
 abbrev pub side : (ℕ → ℕ) → ℕ → List ℕ
 side factor more = map factor (upTo 6) ++ (more ∷ [])
 
--- that the left template spells a word no longer than the right: occurrences in both are left out
+-- that the left template spells a word no longer than the right: a field's occurrences in both are left out
 unfoldable pub equationRow : List Symbol → List Symbol → List ℕ
 equationRow left right = side (excess left right) (letters left) ++ side (excess right left) (letters right)
 

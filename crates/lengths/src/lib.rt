@@ -40,7 +40,7 @@ fn any_of(
     boxes::seek(x, y, w, rows, count, uses, lo, hi, t, u, false).found
 }
 
-// Whether a box has an answer of total t: `best` is taken for one where it has the least length of field k; nothing proved rests on that.
+// An answer of total t in a box, or `best` where its text of field k has the least length. Promised is only that where this is not ok there is none.
 fn nearest(
     x: &[u8],
     y: &[u8],
@@ -106,7 +106,7 @@ fn settle(
     settle(x, y, w, rows, count, uses, others, hi, t, best, k)
 }
 
-// The first one by the order of totals.
+// The first one by total, then by the shorter field 0, field 1 and so on.
 fn least(
     x: &[u8],
     y: &[u8],
@@ -128,8 +128,9 @@ fn least(
     settle(x, y, w, rows, count, uses, lo, hi, best.below, found, 0)
 }
 
-// The first vector from `lo` to `hi` at which the rows hold and an attempt succeeds: x and w are the equations, as in `attempt`, y the cells of the equations
-// reversed, and rows the inequalities, as many as `count`. It is the first by the order of totals, if the shortest is asked for. Not ok where there is none.
+// The first vector from `lo` to `hi` at which the rows hold and an attempt succeeds: x and w are the equations, as in `trails::attempt`, y the cells of the equations
+// reversed, and rows the inequalities, as many as `count`. It is the first by total, then by the shorter field 0 and so on, if the
+// shortest is asked for; else any one. Not ok where there is none.
 pub fn first(
     x: &[u8],
     y: &[u8],

@@ -16,8 +16,8 @@ use Rattle.model.proofs.Lists.{by-test, at, from-at}
 use Rattle.formula.proofs.Small.{letters-few, fields-few, limit-small}
 use Rattle.fields.specs.declared.Field.{Field}
 use Rattle.fields.specs.Memory.{textOf, textsOf, field, Whole, meaning, Held}
-use Rattle.unification.specs.Names.{app, mapField, noField}
-use Rattle.unification.proofs.Laws.{pick-ind, Refining}
+use Rattle.unification.specs.Names.{app, mapField, noField, Refining}
+use Rattle.unification.proofs.Laws.{pick-ind}
 use Rattle.walk.specs.Reading.{nameOf, freshOf, startOf}
 use Rattle.walk.proofs.Renewing.{at8, start-field}
 use Rattle.trails.proofs.Attempts.{Instance}

@@ -1,5 +1,6 @@
 // A question to the search, and an answer where there is one: lengths in ranges, and some of a sheet's equations and constraints. Cells and rows are made
-// here once; `lengths` then goes through boxes of lengths, in which the equations are walked from both ends, as document 000's automaton does.
+// here once; `lengths` then goes through boxes of lengths, in which the equations are walked (document 000's automaton), and so are the equations
+// reversed.
 use fields::Lengths;
 use inequalities::Marks;
 use inequalities::ROOM;
@@ -18,7 +19,8 @@ pub struct Ask {
     pub constraints: Marks,
 }
 
-// A substitution that answers what is asked, where there is one: a shortest one, if that matters.
+// A substitution that answers what is asked, where there is one. Which one is not promised here: with `shortest` it is that of the first vector of lengths,
+// as `First` says of `lengths::first`.
 pub fn find(sheet: &[u8], ask: Ask, shortest: bool) -> Found
     requires { ⌜ Admitted (now sheet) × Asking (sheetOf (now sheet)) ask ⌝ }
     ensures { λ r. ⌜ Finds (now (sheet .entry)) ask r ⌝ }
@@ -30,7 +32,7 @@ pub fn find(sheet: &[u8], ask: Ask, shortest: bool) -> Found
     let equations = ask.equations;
     let constraints = ask.constraints;
     let ahead = sides::put_equations(&mut x, &mut w, sheet, equations, false);
-    // the reversed equations are as wide: w stays as it is
+    // the reversed equations are as wide: the same widths are written to w again
     let behind = sides::put_equations(&mut y, &mut w, sheet, equations, true);
     let count = gathering::gather(sheet, equations, constraints, &mut rows);
     let cells = ahead.cells;

@@ -12,9 +12,9 @@ use borrow.Author.Tests.{ltb-true, eqb-true}
 use Rattle.model.proofs.Lists.{never, by-test}
 use Rattle.fields.specs.declared.Field.{Field}
 use Rattle.unification.specs.declared.Found.{Found}
-use Rattle.unification.specs.Names.{settle, app, found, failed, Below}
+use Rattle.unification.specs.Names.{settle, app, found, failed, Below, Refining}
 use Rattle.unification.specs.Names as names
-use Rattle.unification.proofs.Laws.{pick-ind, Refining, Renamed, unchanged, further, settled, value-renamed}
+use Rattle.unification.proofs.Laws.{pick-ind, Renamed, unchanged, further, settled, value-renamed}
 use Rattle.walk.specs.Walk.{Letters, walkOn}
 use Rattle.walk.specs.Reading.{startOf, Reads, texts, Inside}
 use Rattle.walk.proofs.Renewing.{start-is, start-closed, start-letters, start-value}

@@ -14,7 +14,7 @@ use Rattle.trails.specs.Trail.{walkAll, noCells}
 abbrev pub startTrail : List ℕ → Trail
 startTrail n = record { ok = true; last = 4; substitution = startOf n; at = noCells }
 
--- what is left open takes letter 0
+-- every name that is left takes letter 0
 abbrev pub settledTrail : Trail → Found
 settledTrail t = pick (t .ok) (found (app settle (t .substitution))) (failed (t .substitution))
 

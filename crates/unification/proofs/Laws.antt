@@ -12,7 +12,7 @@ use Rattle.model.specs.Lists.{pick}
 use Rattle.model.proofs.Lists.{never, by-test}
 use Rattle.fields.specs.declared.Field.{Field}
 use Rattle.unification.specs.declared.Found.{Found}
-use Rattle.unification.specs.Names.{repl, settle, mapField, app, placeOf, valueOf, unifyOf, found, failed, Below, Inside}
+use Rattle.unification.specs.Names.{repl, settle, mapField, app, placeOf, valueOf, unifyOf, found, failed, Below, Inside, Refining}
 
 -- what holds of both arms holds of the one that is picked
 pub pick-ind : {A : Type 0} (P : A → Type 0) (b : Bool) {x y : A} → (b ≡ true → P x) → (b ≡ false → P y) → P (pick b x y)
@@ -22,12 +22,6 @@ pick-ind P false f g = g refl
 -- by which of two numbers is less
 pub by-lt : {P : Type 0} (a b : ℕ) → (a < b → P) → (b ≤ a → P) → P
 by-lt a b f g = by-test (ltb a b) (λ e. f (ltb-true a b e)) (λ e. g (ltb-false a b e))
-
--- what may be applied to every place: letters and blanks stay, and nothing else becomes blank (names become other names, or letters)
-pub record Refining (s : ℕ → ℕ) : Type 0 where
-  pub letter : (x : ℕ) → x < 8 → s x ≡ x
-  pub blank : s 255 ≡ 255
-  pub solid : (x : ℕ) → s x ≡ 255 → x ≡ 255
 
 same : Refining (λ x. x)
 same = record { letter = λ x h. refl; blank = refl; solid = λ x e. e }
@@ -45,7 +39,7 @@ repl-hit u v = simp (eq-eqb u u refl)
 repl-miss : (u v x : ℕ) → (x ≡ u → ⊥) → repl u v x ≡ x
 repl-miss u v x n = simp (ne-eqb x u n)
 
-repl-refines : (u v : ℕ) → 8 ≤ u → (u ≡ 255 → ⊥) → (v ≡ 255 → ⊥) → Refining (repl u v)
+pub repl-refines : (u v : ℕ) → 8 ≤ u → (u ≡ 255 → ⊥) → (v ≡ 255 → ⊥) → Refining (repl u v)
 repl-refines u v h n m = record {
   letter = λ x k. repl-miss u v x (λ e. omega arith);
   blank = repl-miss u v 255 (λ e. n (sym e));

@@ -1,4 +1,5 @@
 -- Substitutions with names, what cells hold under them, and unification of two values.
+use mathlib.Core.Path.{_≡_}
 use Prim.Native.Nat.{ℕ, _-_, _/_, _%_, _<_, _≤_}
 use mathlib.Core.Bool.{true, false}
 use mathlib.Core.List.{List, [], map}
@@ -47,7 +48,7 @@ found g = record { ok = true; substitution = g }
 abbrev pub failed : List Field → Found
 failed g = record { ok = false; substitution = g }
 
--- the most general way to make u and v the same
+-- the most general way to make u and v, letters or names, the same
 unfoldable pub unifyOf : List Field → ℕ → ℕ → Found
 unifyOf g u v =
     pick (eqb u v) (found g)
@@ -61,3 +62,9 @@ Below l x = x < 8 → x < l
 -- all letters of a substitution are below l
 abbrev pub Inside : ℕ → List Field → Type 0
 Inside l g = (u : ℕ) → 8 ≤ u → Below l (valueOf g u)
+
+-- what may be applied to every place: letters and blanks stay, and nothing else becomes blank (names become other names, or letters)
+pub record Refining (s : ℕ → ℕ) : Type 0 where
+  pub letter : (x : ℕ) → x < 8 → s x ≡ x
+  pub blank : s 255 ≡ 255
+  pub solid : (x : ℕ) → s x ≡ 255 → x ≡ 255

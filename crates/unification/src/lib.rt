@@ -1,7 +1,8 @@
 // A substitution whose letters are found by unification, and what a template's cells hold under it.
 //
 // A place holds a letter (below 8); a name (8 + 8 × f + c), which stands for every place that must hold the same letter while that letter is
-// open; or 255, past its field's length. A cell is a letter, or the name of a place, as in `shape`.
+// not known; 254, where it is open whether there is such a place (see `walk`); or 255, past its field's length. A cell is a letter, or the name of
+// a place, as in `shape`.
 use fields::FIELDS;
 use fields::Field;
 use fields::PAST;
@@ -103,7 +104,7 @@ pub fn value(g: Substitution, u: u8) -> u8
     t.letters[((u - FIRST_PLACE) % shape::PLACES) as usize]
 }
 
-// Makes the values u and v the same, in the most general way; or fails, where they are two letters that differ.
+// Makes the values u and v, letters or names, the same in the most general way; or fails, where they are two letters that differ.
 pub fn unify(g: Substitution, u: u8, v: u8) -> Found
     ensures { λ r. ⌜ r ≡ unifyOf g u v ⌝ }
 {

@@ -12,9 +12,9 @@ use Rattle.model.specs.Lists.{pick, from}
 use Rattle.model.proofs.Keeping.{map-from-at}
 use Rattle.fields.specs.declared.Field.{Field}
 use Rattle.fields.specs.Memory.{field}
-use Rattle.unification.specs.Names.{noField, placeOf, valueOf, Below}
+use Rattle.unification.specs.Names.{noField, placeOf, valueOf, Below, Refining}
 use Rattle.unification.specs.Names as names
-use Rattle.unification.proofs.Laws.{pick-ind, by-lt, Refining, Renamed, value-place, value-letter, value-renamed}
+use Rattle.unification.proofs.Laws.{pick-ind, by-lt, Renamed, value-place, value-letter, value-renamed}
 use Rattle.walk.specs.Renew.{renewedOf, renewPlace, renewField, renewAt, renewOf}
 use Rattle.walk.specs.Reading.{nameOf, freshOf, startOf, Reads, texts, Covers, Inside, openField, allOpen}
 

@@ -12,8 +12,8 @@ use lib.Dec.{eqb}
 use borrow.Author.Tests.{eqb-true, eqb-false, eq-eqb, ne-eqb}
 use Rattle.model.proofs.Lists.{by-test}
 use Rattle.fields.specs.declared.Field.{Field}
-use Rattle.unification.specs.Names.{repl, app, valueOf, unifyOf}
-use Rattle.unification.proofs.Laws.{pick-ind, Refining, Renamed, value-renamed, unify-cases, unify-complete}
+use Rattle.unification.specs.Names.{repl, app, valueOf, unifyOf, Refining}
+use Rattle.unification.proofs.Laws.{pick-ind, Renamed, value-renamed, unify-cases, unify-complete, repl-refines}
 use Rattle.walk.specs.declared.Walked.{Walked}
 use Rattle.walk.specs.Walk.{word, Reached, reached, isOpen, onward, walkIn, walkOn}
 use Rattle.walk.specs.Reading.{Reads}
@@ -84,13 +84,6 @@ word-append g (u ∷ a) b =
     (λ t. word-solid g u (a ++ b) (eqb-false _ _ t) ∙ ap (λ (z : List ℕ). valueOf g u ∷ z) (word-append g a b))
 
 -- Unification of letters and names leaves open places open, and makes none.
-repl-refines : (u v : ℕ) → 8 ≤ u → (u ≡ 255 → ⊥) → (v ≡ 255 → ⊥) → Refining (repl u v)
-repl-refines u v h n m = record {
-  letter = λ x k. simp (ne-eqb x u (λ e. omega arith));
-  blank = simp (ne-eqb 255 u (λ e. n (sym e)));
-  solid = λ x. pick-ind (λ z. z ≡ 255 → x ≡ 255) (eqb x u) (λ t e. absurd (m e)) (λ t e. e);
-}
-
 -- the same places are open
 abbrev pub SameOpen : List Field → List Field → Type 0
 SameOpen g h = (w : ℕ) → ((valueOf g w ≡ 254 → valueOf h w ≡ 254) × (valueOf h w ≡ 254 → valueOf g w ≡ 254))

@@ -53,7 +53,7 @@ pub record Reached : Type 0 where
 abbrev pub reached : Bool → List ℕ → List ℕ → List Field → Reached
 reached t a b g = record { ok = t; left = a; right = b; substitution = g }
 
--- whether it is open if there is such a place
+-- whether cell u holds 254: it is open whether there is such a place
 abbrev pub isOpen : List Field → ℕ → Bool
 isOpen g u = eqb (valueOf g u) 254
 

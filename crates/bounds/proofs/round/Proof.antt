@@ -1,9 +1,7 @@
 -- `bounds::round` meets its contract. Assumes nothing.
 use mathlib.Core.Path.{sym, _∙_}
-use native.Mathlib.Omega.{arith}
 use borrow.Author.Tests.{not-true, not-false}
 use Rattle.model.proofs.Lists.{never}
-use borrow.Author.Needs.{needs}
 use Rattle.bounds.proofs.round.Statement.{statement}
 use Rattle.bounds.proofs.round.Tie as tie
 use Rattle.bounds.proofs.by_rows.Reads as by-rows-reads

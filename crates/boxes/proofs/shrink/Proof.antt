@@ -1,6 +1,5 @@
 -- `boxes::shrink` meets its contract: the ranges are shortened, and then the trails are walked. Assumes nothing.
 use mathlib.Core.Path.{refl}
-use borrow.Author.Needs.{needs}
 use borrow.Author.Tests.{not-true, not-false}
 use Rattle.trails.specs.Equations.{equations}
 use Rattle.boxes.proofs.Laws.{emptied, walked}

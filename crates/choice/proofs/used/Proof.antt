@@ -1,6 +1,5 @@
 -- `choice::used` ends: nothing else is asked of it. Assumes nothing.
-use Prim.Native.Nat.{ℕ, _+_, _*_, _-_, _<_, _≤_}
-use native.Mathlib.Omega.{arith}
+use Prim.Native.Nat.{_-_, _≤_}
 use borrow.Author.Needs.{needs}
 use Rattle.choice.proofs.used.Statement.{statement}
 use Rattle.choice.proofs.used.Tie as tie

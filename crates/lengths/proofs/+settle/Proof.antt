@@ -13,7 +13,7 @@ use Rattle.trails.specs.Equations.{equations}
 use Rattle.boxes.specs.Vectors.{Settled, Box, Before, tryOf}
 use Rattle.boxes.proofs.Parts.{Parting, least-ranges, others-ranges, least-within, others-within, others-at}
 use Rattle.lengths.proofs.Laws.{nothing, one-vector, least-settled, others-settled, least-hits, least-misses, others-decide}
-use Prim.Native.Nat.{ℕ, _+_, _*_, _-_, _<_, _≤_}
+use Prim.Native.Nat.{ℕ, _+_, _*_, _-_, _<_}
 use borrow.Fn.Kinds.{In}
 use borrow.Fn.PlainCycle.{Measures, is, falls, and}
 use Rattle.lengths.proofs.settle.Reads as settle

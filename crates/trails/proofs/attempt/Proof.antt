@@ -1,4 +1,4 @@
--- `trails::attempt` meets its contract: the equations are walked from the start, and what is left open is settled. Assumes nothing.
+-- `trails::attempt` meets its contract: the equations are walked from the start, and names that are left are settled. Assumes nothing.
 use mathlib.Core.List.{List}
 use native.Mathlib.Omega.{arith}
 use borrow.Author.Needs.{needs}
