@@ -1,6 +1,7 @@
 -- The table of surpluses: what its entries come to in equations taken in some way and put one after another, and when they show that nothing
 -- solves the sheet. Assumes nothing.
 use mathlib.Core.Path.{_≡_, refl}
+use mathlib.Core.Bool.{Bool, true, false}
 use mathlib.Core.List.{List}
 use Prim.Native.Nat.{ℕ, _+_, _-_, _*_, _/_, _%_, _<_, _≤_}
 use native.Mathlib.Omega.{arith}
@@ -10,8 +11,8 @@ use borrow.Author.Tests.{lt-ltb, le-ltb}
 use Rattle.model.specs.Sheet.{Sheet}
 use Rattle.model.specs.Range.{InRange}
 use Rattle.model.proofs.Lists.{by-test}
-use Rattle.balance.specs.Balance.{occurs, chosen, turnedWay, turnedWays, joined, Surplus, symbolAt, Sized, Tabulated, takenSo, takenSurplus, joinedSurplus, Unsolvable}
-use Rattle.balance.proofs.Joined.{joined-none, joined-more, none-there, lopsided-apart}
+use Rattle.balance.specs.Balance.{occurs, chosen, turnedWay, turnedWays, joined, Surplus, symbolAt, Sized, Tabulated, takenSo, takenSurplus, joinedSurplus, Fair, Unfair, Unsolvable}
+use Rattle.balance.proofs.Joined.{joined-none, joined-more, none-there, lopsided-apart, unpaired-apart}
 
 -- an equation that the sheet does not have
 pub even-there : (s : Sheet) (p x : ℕ) → length (s .equations) ≤ p → Surplus s p x 12
@@ -59,21 +60,36 @@ module _ (s : Sheet) (t ways : List ℕ) (right : Tabulated s t) (k : ℕ) (less
       let n = four-joined s (turnedWays ways) (symbolAt k) in
       omega arith
 
--- where no field has a deficit and some letter a surplus, nothing solves the sheet
-module _ (s : Sheet) (ok : InRange s) (t ways : List ℕ) (right : Tabulated s t)
-    (fields : (k : ℕ) → 8 ≤ k → k < 8 + length (s .limits) → 48 ≤ joinedSurplus t ways k) where
-  no-fewer : (x : ℕ) → 128 ≤ x → x < 128 + length (s .limits) → occurs x (joined s (turnedWays ways)) ≤ occurs x (joined s ways)
-  no-fewer x low high =
-      let k = x - 120 in
+-- the same by a symbol's byte
+module _ (s : Sheet) (ok : InRange s) (t ways : List ℕ) (right : Tabulated s t) where
+  field-right : (x : ℕ) → 128 ≤ x → x < 128 + length (s .limits)
+      → joinedSurplus t ways (x - 120) + occurs x (joined s (turnedWays ways)) ≡ 48 + occurs x (joined s ways)
+  field-right x low high =
       let few = ok .counts-in .of-fields in
-      let m = joined-right s t ways right k (omega arith) in
+      let k = x - 120 in
       let e : symbolAt k ≡ x = rw (le-ltb k 8 (omega arith)) (omega arith) in
-      let n = fields k (omega arith) (omega arith) in
-      omega (arith, rw e at m)
+      rw e at (joined-right s t ways right k (omega arith))
 
-  pub surplus-apart : (a : ℕ) → a < length (s .letters) → 48 < joinedSurplus t ways a → Unsolvable s
-  surplus-apart a h more =
+  letter-right : (a : ℕ) → a < length (s .letters) → joinedSurplus t ways a + occurs a (joined s (turnedWays ways)) ≡ 48 + occurs a (joined s ways)
+  letter-right a h =
       let few = ok .counts-in .of-letters in
-      let m = joined-right s t ways right a (omega arith) in
       let e : symbolAt a ≡ a = rw (lt-ltb a 8 (omega arith)) refl in
-      lopsided-apart s ok ways a h no-fewer (omega (arith, rw e at m))
+      rw e at (joined-right s t ways right a (omega arith))
+
+  -- where no field has a deficit and some letter a surplus, nothing solves the sheet
+  surplus-apart : ((k : ℕ) → 8 ≤ k → k < 8 + length (s .limits) → 48 ≤ joinedSurplus t ways k) → (a : ℕ) → a < length (s .letters) → 48 < joinedSurplus t ways a → Unsolvable s
+  surplus-apart fields a h more =
+      lopsided-apart s ok ways a h
+      (λ x low high. let m = field-right x low high in let n = fields (x - 120) (omega arith) (omega arith) in omega arith)
+      (let m = letter-right a h in omega arith)
+
+  -- where every field's surplus is even and some letter's odd, nothing does
+  odd-apart : ((k : ℕ) → 8 ≤ k → k < 8 + length (s .limits) → joinedSurplus t ways k % 2 ≡ 0) → (a : ℕ) → a < length (s .letters) → joinedSurplus t ways a % 2 ≡ 1 → Unsolvable s
+  odd-apart fields a h odd =
+      unpaired-apart s ok ways a h
+      (λ x low high. let m = field-right x low high in let n = fields (x - 120) (omega arith) (omega arith) in omega arith)
+      (let m = letter-right a h in omega arith)
+
+  pub unfair-apart : (pairs : Bool) → ((k : ℕ) → 8 ≤ k → k < 8 + length (s .limits) → Fair pairs (joinedSurplus t ways k)) → (a : ℕ) → a < length (s .letters) → Unfair pairs (joinedSurplus t ways a) → Unsolvable s
+  unfair-apart false fields a h more = surplus-apart fields a h more
+  unfair-apart true fields a h odd = odd-apart fields a h odd
