@@ -66,7 +66,7 @@ module _ (l v : ℕ) (small : l ≤ 128) where
       let k = ltb-true x (128 + v) (a .1) in
       rw (le-ltb x 128 g) (omega arith))
 
-  symbol-again : (t : Symbol) → SymbolIn l v t → symbolOf (symbolByte t) ≡ t
+  pub symbol-again : (t : Symbol) → SymbolIn l v t → symbolOf (symbolByte t) ≡ t
   symbol-again (letter a) h = rw (lt-ltb a 128 (omega arith))
   symbol-again (field f) h = rw (le-ltb (128 + f) 128 (omega arith)) (ap field (omega arith))
 
