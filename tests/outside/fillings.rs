@@ -19,6 +19,14 @@ pub fn encode(filling: &Filling) -> Vec<u8> {
     bytes
 }
 
+/// The texts of a legal filling's bytes.
+pub fn decode(bytes: &[u8]) -> Filling {
+    let fields = bytes.chunks(FIELD_BYTES);
+    fields
+        .map(|field| field[1..=usize::from(field[0])].to_vec())
+        .collect()
+}
+
 /// A legal filling; in about one of five every field is full.
 pub fn legal(random: &mut Random, sheet: &Sheet) -> Filling {
     if random.chance(20) {

@@ -20,9 +20,10 @@ pub fn all() -> Vec<Hard> {
     let lines = listed.lines().filter(|line| !line.starts_with('#'));
     let all: Vec<Hard> = lines.map(|line| read(folder, line)).collect();
     let files = fs::read_dir(folder).expect("a folder of hard sheets");
+    let reports = all.iter().filter(|hard| hard.clash).count();
     require(
-        files.count() == all.len() + 1,
-        "not every sheet has an answer",
+        files.count() == all.len() + reports + 1,
+        "not every sheet has an answer, or not every clash a report",
         &[("folder", &FOLDER), ("answers", &all.len())],
     );
     all

@@ -99,7 +99,7 @@ fn structured(random: &mut Random) -> (Vec<u8>, Vec<u8>, Vec<u8>) {
         3 => planted::clashing(random, sheets::largest),
         4 | 5 => with_filling(random, small::sheet),
         6 => with_filling(random, small::far),
-        7 => with_filling(random, searches::full),
+        7 => with_filling(random, |random| searches::full(random).0),
         _ => with_filling(random, sheets::valid),
     };
     let reply = reply(random, &sheet, &filling);

@@ -1,10 +1,14 @@
 //! Large sheets, of which nobody can try all fillings: what the search says of each is held to what
 //! SAT solvers say of the library's clause file. The answers to the hard sheets are held to it too.
-//! That a clash which is given has the first lengths is asked as well: whether there is one sooner.
+//! The clash that is given is held to the plain search's; no solver's clash is before it, and solvers
+//! are asked as well whether there is one at sooner lengths.
 
+use crate::assignment::{self, Numbered};
+use crate::first;
 use crate::hard;
 use crate::late::{self, Family, FAMILIES};
 use crate::met::Met;
+use crate::order;
 use crate::planted;
 use crate::question;
 use crate::random::Random;
@@ -15,6 +19,7 @@ use crate::shapes;
 use crate::sheets;
 use crate::small;
 use crate::solver::{self, Answer, Solver};
+use crate::speller::{self, Filling, Verdict};
 use crate::tally::Tally;
 
 const SHEETS: usize = 520;
@@ -29,10 +34,12 @@ const SPOILED_PERCENT: usize = 55;
 const LEAST_OF_EACH_ANSWER: usize = 200;
 const LEAST_OF_EACH_SHAPE: usize = 20;
 /// How many sheets of each family must clash and how many be apart, how many sheets must be told
-/// apart by a count, and of how many clashes it must be asked whether there is one sooner.
+/// apart by a count, of how many clashes it must be asked whether there is one sooner, and how many
+/// clashes of solvers must be later ones.
 const LEAST_OF_EACH_FAMILY: usize = 2;
 const LEAST_LOPSIDED: usize = 20;
 const LEAST_FIRST: usize = 100;
+const LEAST_LATER: usize = 100;
 
 /// What is asked, and what came up.
 struct Large<'a> {
@@ -43,6 +50,7 @@ struct Large<'a> {
     apart: Tally,
     lopsided: usize,
     first: usize,
+    later: usize,
 }
 
 /// Asks solvers about large sheets, and about so many of the families too.
@@ -70,16 +78,25 @@ impl Large<'_> {
             apart: Tally::new("apart sheets of", &names, 0..0),
             lopsided: 0,
             first: 0,
+            later: 0,
         }
     }
 
     /// Compares the search with the solvers, and answers whether a sheet clashes.
     fn compare(&mut self, sheet: &Sheet) -> bool {
         let bytes = sheets::encode(sheet);
-        let clash = ask(self.solvers, self.met.total(), &bytes);
-        self.searches.compare_in(&bytes, clash, &[ROOMY]);
-        if clash {
-            self.require_first(sheet, &bytes);
+        let listings = ask(self.solvers, self.met.total(), &bytes);
+        let clash = !listings.is_empty();
+        let first = if clash { first::clash(sheet) } else { None };
+        require(
+            first.is_some() == clash,
+            "the solvers find a clash, and the plain search none",
+            &[("sheet", &Hex(&bytes))],
+        );
+        self.searches.compare_in(&bytes, first.as_ref(), &[ROOMY]);
+        if let Some(first) = first {
+            self.require_later(sheet, &listings, &first);
+            self.require_first(sheet, &bytes, &first);
         }
         if late::is_lopsided(sheet) {
             require(
@@ -104,10 +121,36 @@ impl Large<'_> {
         answers.count(Ok(family.name));
     }
 
+    /// Holds what the solvers list to be clashes, none of them before the first.
+    fn require_later(&mut self, sheet: &Sheet, listings: &[Vec<i64>], first: &Filling) {
+        let numbered = Numbered::new(sheet.clone());
+        for listed in listings {
+            let read = assignment::read(listed, numbered.numbers.len());
+            let filling = read.and_then(|assignment| assignment.filling(&numbered));
+            let fits = match &filling {
+                Ok(filling) => {
+                    speller::judge(sheet, filling) == Verdict::Clash
+                        && order::key(filling) >= order::key(first)
+                }
+                Err(_) => false,
+            };
+            require(
+                fits,
+                "what a solver lists is no clash, or is before the one that the search gives",
+                &[
+                    ("sheet", &Hex(&sheets::encode(sheet))),
+                    ("listed", &format!("{filling:?}")),
+                    ("given", &format!("{first:?}")),
+                ],
+            );
+            self.later += usize::from(filling.as_ref() != Ok(first));
+        }
+    }
+
     /// Holds the clash that is given to the first lengths at which anything clashes: the search says
     /// that nothing is sooner, and of a part of what would be so does a solver.
-    fn require_first(&mut self, sheet: &Sheet, bytes: &[u8]) {
-        let lengths = searches::lengths_given(bytes).expect("a clash");
+    fn require_first(&mut self, sheet: &Sheet, bytes: &[u8], first: &Filling) {
+        let lengths: Vec<u8> = first.iter().map(|text| text.len() as u8).collect();
         let sooner = sooner(sheet, &lengths);
         if sooner.is_empty() {
             return;
@@ -115,10 +158,10 @@ impl Large<'_> {
         let turn = self.met.total();
         let asked = sheets::encode(&sooner[turn % sooner.len()]);
         let solver = &self.solvers[turn % self.solvers.len()];
-        let clash = ask_one(solver, turn, &asked, &question::clauses(&asked));
+        let clash = ask_one(solver, turn, &asked, &question::clauses(&asked)).is_some();
         let mut all = sooner.iter().map(sheets::encode);
         require(
-            !clash && all.all(|sheet| searches::lengths_given(&sheet).is_none()),
+            !clash && all.all(|sheet| searches::given(&sheet).is_none()),
             "the clash that the search gives has not the first lengths",
             &[
                 ("sheet", &Hex(bytes)),
@@ -136,9 +179,15 @@ impl Large<'_> {
         self.clash.finish_on_a_line(LEAST_OF_EACH_FAMILY);
         self.apart.finish_on_a_line(LEAST_OF_EACH_FAMILY);
         require(
-            self.lopsided >= LEAST_LOPSIDED && self.first >= LEAST_FIRST,
+            self.lopsided >= LEAST_LOPSIDED
+                && self.first >= LEAST_FIRST
+                && self.later >= LEAST_LATER,
             "too few large sheets are told apart by a count, or too few clashes are held to be first",
-            &[("by a count", &self.lopsided), ("first", &self.first)],
+            &[
+                ("by a count", &self.lopsided),
+                ("first", &self.first),
+                ("later", &self.later),
+            ],
         );
         println!(
             "outside: the search agrees with {} on {} large sheets: {} clash, {} apart; \
@@ -151,8 +200,8 @@ impl Large<'_> {
         );
         println!(
             "outside: large sheets: {} are told apart by a count of symbols; \
-             nothing is sooner than {} of the clashes",
-            self.lopsided, self.first
+             nothing is sooner than {} of the clashes; the solvers' own are later {} times",
+            self.lopsided, self.first, self.later
         );
     }
 }
@@ -189,7 +238,7 @@ fn sooner(sheet: &Sheet, lengths: &[u8]) -> Vec<Sheet> {
 fn ask_about_hard_sheets(solvers: &[Solver]) {
     let all = hard::all();
     for (turn, hard) in all.iter().enumerate() {
-        let clash = ask(solvers, turn, &hard.sheet);
+        let clash = !ask(solvers, turn, &hard.sheet).is_empty();
         require(
             clash == hard.clash,
             "the solvers have another answer to a hard sheet",
@@ -199,24 +248,26 @@ fn ask_about_hard_sheets(solvers: &[Solver]) {
     println!("outside: hard sheets given to solvers: {}", all.len());
 }
 
-/// Asks all solvers, which are to agree, whether a sheet clashes.
-fn ask(solvers: &[Solver], turn: usize, sheet: &[u8]) -> bool {
+/// Asks all solvers, which are to agree, for an assignment of a sheet's clauses. Answers what they
+/// list; nothing if they say that nothing clashes.
+fn ask(solvers: &[Solver], turn: usize, sheet: &[u8]) -> Vec<Vec<i64>> {
     let clauses = question::clauses(sheet);
     let ask_one = |solver| ask_one(solver, turn, sheet, &clauses);
-    let answers: Vec<bool> = solvers.iter().map(ask_one).collect();
+    let listings: Vec<Vec<i64>> = solvers.iter().filter_map(ask_one).collect();
     require(
-        answers.iter().all(|&clash| clash == answers[0]),
+        listings.is_empty() || listings.len() == solvers.len(),
         "the solvers do not agree",
         &[
             ("sheet", &Hex(sheet)),
             ("solvers", &solver::names(solvers)),
-            ("clash", &format!("{answers:?}")),
+            ("clashes", &listings.len()),
         ],
     );
-    answers[0]
+    listings
 }
 
-fn ask_one(solver: &Solver, turn: usize, sheet: &[u8], clauses: &[u8]) -> bool {
+/// What a solver lists, if it does not say that nothing clashes.
+fn ask_one(solver: &Solver, turn: usize, sheet: &[u8], clauses: &[u8]) -> Option<Vec<i64>> {
     let reply = solver.ask(turn, clauses);
     let answer = reply.answer();
     require(
@@ -229,7 +280,10 @@ fn ask_one(solver: &Solver, turn: usize, sheet: &[u8], clauses: &[u8]) -> bool {
             ("printed", &reply.printed),
         ],
     );
-    matches!(answer, Ok(Answer::Satisfiable(_)))
+    match answer {
+        Ok(Answer::Satisfiable(listed)) => Some(listed),
+        _ => None,
+    }
 }
 
 /// A large sheet of one of two kinds.

@@ -10,9 +10,9 @@
 //! to what must be so whatever the input; with `--exact` after it nothing is lent with margins, so
 //! that valgrind's memcheck sees what is read or written outside of what is lent.
 //!
-//! Two further words test no library: `clauses` prints the clause file of the sheet on standard input
-//! from the plain writer, and `report`, with a sheet's file, says whether the report on standard
-//! input is right.
+//! Two further words test no library. Of the sheet on standard input `clauses` prints the clause file
+//! from the plain writer, and `report` what the search program is to print, with the clash of the plain
+//! search.
 //!
 //! It runs in the repository's folder.
 
@@ -27,6 +27,7 @@ mod ends;
 mod engine;
 mod examples;
 mod fillings;
+mod first;
 mod fuzz;
 mod hard;
 mod inputs;
@@ -35,6 +36,7 @@ mod late;
 mod lent;
 mod listed;
 mod met;
+mod order;
 mod orders;
 mod planted;
 mod printed;
@@ -57,11 +59,11 @@ mod tally;
 mod test;
 mod texts;
 mod turn;
+mod turned;
 mod writer;
 mod writing;
 
 use solver::Solver;
-use std::fs;
 use std::io::{self, Read};
 
 fn main() -> io::Result<()> {
@@ -89,10 +91,7 @@ fn main() -> io::Result<()> {
             large::run(&solvers(words), of_families);
         }
         Some("clauses") => writer::print(&input()?)?,
-        Some("report") => {
-            let sheet = words.next().expect("a sheet's file");
-            printed::print(&fs::read(sheet)?, &input()?);
-        }
+        Some("report") => print!("{}", printed::report(&input()?)),
         Some(word) => panic!("no such word: {word}"),
     }
     Ok(())

@@ -53,8 +53,9 @@ pub fn plant_two(random: &mut Random, sheet: &mut Sheet, fillings: &[Filling; 2]
 }
 
 /// Makes a filling of these lengths clash whose texts are parts of one repeating text. Each pair
-/// comes to spell such a part, so that its templates can have many fields and still differ.
-pub fn plant_parts(random: &mut Random, sheet: &mut Sheet, lengths: &[u8]) {
+/// comes to spell such a part, so that its templates can have many fields and still differ. Answers
+/// that filling.
+pub fn plant_parts(random: &mut Random, sheet: &mut Sheet, lengths: &[u8]) -> Filling {
     let l = sheet.letters.len();
     let repeated: Vec<u8> = (0..random.within(1, 5))
         .map(|_| random.below(l) as u8)
@@ -72,6 +73,7 @@ pub fn plant_parts(random: &mut Random, sheet: &mut Sheet, lengths: &[u8]) {
         *pair = found.expect("two templates for the empty text");
     }
     plant_rules(random, sheet, &filling);
+    filling
 }
 
 /// A text of this length that begins at any place of a repeated one.
@@ -105,11 +107,11 @@ pub fn shuffle(random: &mut Random, sheet: &mut Sheet) {
     }
 }
 
-/// Symbols in another order.
-pub fn shuffled(random: &mut Random, symbols: &[Symbol]) -> Template {
-    let mut shuffled = symbols.to_vec();
-    for place in 0..symbols.len() {
-        shuffled.swap(place, random.below(symbols.len()));
+/// Symbols, or other things, in another order.
+pub fn shuffled<T: Clone>(random: &mut Random, things: &[T]) -> Vec<T> {
+    let mut shuffled = things.to_vec();
+    for place in 0..things.len() {
+        shuffled.swap(place, random.below(things.len()));
     }
     shuffled
 }

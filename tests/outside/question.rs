@@ -3,13 +3,12 @@
 
 use crate::engine;
 use crate::fillings;
+use crate::order;
 use crate::reader::{Pair, Sheet};
 use crate::reply::Asked;
 use crate::report::{require, Hex};
-use crate::sheets;
 use crate::speller::{self, Filling, Verdict};
 use crate::writing::ROOMY;
-use std::collections::BTreeSet;
 
 pub struct Question {
     pub asked: Asked,
@@ -20,13 +19,10 @@ pub struct Question {
 
 /// What trying all fillings of a sheet comes to.
 pub struct Tried {
-    /// Some filling clashes.
-    pub clash: bool,
     /// One of `REASONS`.
     pub reason: &'static str,
-    /// The totals and the lengths at which fillings clash, and so in the order of the search: by the
-    /// total, then the shorter field 0, field 1 and so on.
-    at: BTreeSet<(usize, Vec<u8>)>,
+    /// All fillings that clash.
+    pub clashes: Vec<Filling>,
 }
 
 /// How an answer comes about.
@@ -38,28 +34,37 @@ pub const REASONS: [&str; 5] = [
     "apart, for the rules",
 ];
 
-/// At how many lengths fillings clash.
-pub const SPREADS: [&str; 3] = [
-    "clash at one vector of lengths",
-    "clash at several, all of one total",
-    "clash at several totals",
+/// What has to decide which clash is the first.
+pub const SPREADS: [&str; 4] = [
+    "one clash alone",
+    "several clashes, all of the same lengths",
+    "several clashes, all of one total",
+    "several clashes, of several totals",
 ];
 
 impl Tried {
-    /// The lengths of the clash that the search is to give, if there is one.
-    pub fn first(&self) -> Option<&[u8]> {
-        self.at.first().map(|(_, lengths)| &lengths[..])
+    pub fn clash(&self) -> bool {
+        !self.clashes.is_empty()
+    }
+
+    /// The clash that the search is to give, if there is one.
+    pub fn first(&self) -> Option<&Filling> {
+        self.clashes.iter().min_by_key(|clash| order::key(clash))
     }
 
     /// One of `SPREADS`, if there is a clash.
     pub fn spread(&self) -> Option<&'static str> {
-        let (least, greatest) = (self.at.first()?, self.at.last()?);
-        let spread = if least == greatest {
-            "clash at one vector of lengths"
-        } else if least.0 == greatest.0 {
-            "clash at several, all of one total"
+        let (first, others) = self.clashes.split_first()?;
+        let lengths = order::lengths(first);
+        let total = |clash: &Filling| clash.iter().map(Vec::len).sum::<usize>();
+        let spread = if others.is_empty() {
+            "one clash alone"
+        } else if others.iter().all(|other| order::lengths(other) == lengths) {
+            "several clashes, all of the same lengths"
+        } else if others.iter().all(|other| total(other) == total(first)) {
+            "several clashes, all of one total"
         } else {
-            "clash at several totals"
+            "several clashes, of several totals"
         };
         Some(spread)
     }
@@ -81,10 +86,7 @@ pub fn try_all(sheet: &Sheet) -> Tried {
     let fillings = fillings::all(sheet);
     let judge = |filling| speller::judge(sheet, filling);
     let verdicts: Vec<Verdict> = fillings.iter().map(judge).collect();
-    let judged = fillings.iter().zip(&verdicts);
-    let clashing = judged.filter(|(_, &verdict)| verdict == Verdict::Clash);
-    let at: BTreeSet<_> = clashing.map(|(filling, _)| lengths(filling)).collect();
-    let clash = !at.is_empty();
+    let clash = verdicts.contains(&Verdict::Clash);
     let breaks = |verdict: &Verdict| matches!(verdict, Verdict::RuleBreaks(_));
     let agrees = |pair: &Pair| fillings.iter().any(|filling| agrees(pair, filling));
     let reason = match (clash, verdicts.iter().any(breaks)) {
@@ -94,13 +96,12 @@ pub fn try_all(sheet: &Sheet) -> Tried {
         (false, false) if sheet.pairs.iter().all(agrees) => "apart, for the pairs together",
         (false, false) => "apart, for one pair alone",
     };
-    Tried { clash, reason, at }
-}
-
-/// The total and the lengths of a filling.
-fn lengths(filling: &Filling) -> (usize, Vec<u8>) {
-    let lengths: Vec<u8> = filling.iter().map(|text| text.len() as u8).collect();
-    (sheets::total(&lengths), lengths)
+    let judged = fillings.into_iter().zip(verdicts);
+    let clashing = judged.filter(|(_, verdict)| *verdict == Verdict::Clash);
+    Tried {
+        reason,
+        clashes: clashing.map(|(filling, _)| filling).collect(),
+    }
 }
 
 fn agrees(pair: &Pair, filling: &Filling) -> bool {

@@ -1,17 +1,20 @@
-//! The test of the search: sheets whose answer is known from elsewhere, most often from brute
-//! force. The clash that is given is checked and not compared: by the plain checker, and by the
-//! library's own. Where all fillings were tried its lengths are compared too: they are the first at
-//! which anything clashes, by their total, then the shorter field 0, field 1 and so on.
+//! The test of the search: sheets whose first clash, or that they are apart, is known from elsewhere.
+//! Where all fillings can be tried it is known from that; and from the plain search, which is held to
+//! it. The search is to give just that clash. Both checkers, the plain one and the library's own, have
+//! to find it one.
 
 use crate::answers;
 use crate::engine;
 use crate::examples;
 use crate::fillings;
+use crate::first;
 use crate::hard;
+use crate::late::FAMILIES;
 use crate::met::Met;
+use crate::order::{self, WRONG};
 use crate::planted;
 use crate::printed;
-use crate::question::{self, Tried, REASONS, SPREADS};
+use crate::question::{self, REASONS, SPREADS};
 use crate::random::Random;
 use crate::reader::{self, Sheet};
 use crate::refusal::Refusal;
@@ -19,23 +22,31 @@ use crate::report::{require, Case, Hex};
 use crate::shapes;
 use crate::sheets;
 use crate::small;
-use crate::speller::{self, Verdict, FIELD_BYTES};
+use crate::speller::{self, Filling, Verdict, FIELD_BYTES};
 use crate::tally::Tally;
 use crate::test;
+use crate::turned::{self, TURNS};
 use std::time::{Duration, Instant};
 
 const SMALL: usize = 100_000;
 const FAR_PERCENT: usize = 20;
 const WIDE_PERCENT: usize = 10;
 const SPLIT_PERCENT: usize = 8;
+const TRADED_PERCENT: usize = 8;
 const PLANTED: usize = 2000;
+const TURNED: usize = 20_000;
 const REFUSED: usize = 60_000;
 /// How many small sheets must clash and how many be apart, and how many have each reason, each
-/// spread of lengths and each shape.
+/// spread of clashes and each shape. So many must have another first clash by each wrong order.
 const LEAST_OF_EACH_ANSWER: usize = 15_000;
 const LEAST_OF_EACH_REASON: usize = 1500;
 const LEAST_OF_EACH_SPREAD: usize = 500;
 const LEAST_OF_EACH_SHAPE: usize = 500;
+const LEAST_OF_EACH_ORDER: usize = 300;
+/// In how many sheets with a planted clash the first must be another one.
+const LEAST_BEFORE_PLANTED: usize = 500;
+/// How many sheets that clash, and how many that are apart, must be turned in each way.
+const LEAST_OF_EACH_TURN: usize = 500;
 
 /// A buffer of 54 is to be long enough for every filling.
 pub const ROOMY: usize = 54;
@@ -50,15 +61,13 @@ pub struct Searches {
 }
 
 pub fn run() {
-    println!(
-        "outside: reports with a known judgement: {}",
-        printed::known()
-    );
+    println!("outside: known reports: {}", printed::known());
     let mut searches = Searches::new("searches", (1..=15).chain([27]));
     searches.part("searches with a known answer", known);
     searches.part("searches with buffers of all lengths", all_buffers);
     searches.part("searches of small sheets", small);
     searches.part("searches of sheets with a planted clash", planted);
+    searches.part("searches of sheets that are turned", turned);
     searches.part("searches of refused sheets", refused);
     searches.part("searches of hard sheets", hard);
     searches.finish();
@@ -83,43 +92,47 @@ impl Searches {
         println!("outside: {name}: {}", self.sheets - before);
     }
 
-    /// Compares what is found in a sheet, which clashes or is apart, with each kind of buffer.
-    fn compare(&mut self, sheet: &[u8], clash: bool) {
+    /// Compares what is found in a sheet, whose first clash is this one if it has one, with each kind
+    /// of buffer.
+    fn compare(&mut self, sheet: &[u8], first: Option<&Filling>) {
         let rooms = fillings::rooms(&mut self.random, filling_bytes(sheet));
-        self.compare_in(sheet, clash, &rooms);
+        self.compare_in(sheet, first, &rooms);
     }
 
     /// Compares what is found with buffers of these lengths, and answers how long the slowest search
     /// took.
-    pub fn compare_in(&mut self, sheet: &[u8], clash: bool, rooms: &[usize]) -> Duration {
+    pub fn compare_in(
+        &mut self,
+        sheet: &[u8],
+        first: Option<&Filling>,
+        rooms: &[usize],
+    ) -> Duration {
         let times = rooms
             .iter()
-            .map(|&room| self.compare_once(sheet, clash, room));
+            .map(|&room| self.compare_once(sheet, first, room));
         let slowest = times.max().unwrap_or_default();
         self.slowest = self.slowest.max(slowest);
         self.sheets += 1;
         slowest
     }
 
-    fn compare_once(&mut self, sheet: &[u8], clash: bool, room: usize) -> Duration {
+    fn compare_once(&mut self, sheet: &[u8], first: Option<&Filling>, room: usize) -> Duration {
         let start = Instant::now();
         let got = engine::search(sheet, room);
         let took = start.elapsed();
-        let size = filling_bytes(sheet);
         let mut buffer = engine::buffer_before(room);
-        let (status, answer) = match due(sheet, clash, room) {
-            Ok(true) => {
-                buffer[..size].copy_from_slice(&got.lent[..size]);
-                (1, Ok(kind(&buffer[..size])))
+        let (status, answer) = match due(sheet, first, room) {
+            Ok(Some(filling)) => {
+                let bytes = fillings::encode(filling);
+                buffer[..bytes.len()].copy_from_slice(&bytes);
+                require_clash(sheet, &bytes);
+                (1, Ok(kind(filling)))
             }
-            Ok(false) => (0, Ok("apart")),
+            Ok(None) => (0, Ok("apart")),
             Err(refusal) => (test::status(refusal), Err(refusal as u8)),
         };
         let case: &Case = &[("sheet", &Hex(sheet)), ("buffer of", &room)];
         test::hold(got, test::due(status, &buffer), case);
-        if status == 1 {
-            require_clash(sheet, &buffer[..size]);
-        }
         self.tally.count(answer);
         took
     }
@@ -142,55 +155,44 @@ fn filling_bytes(sheet: &[u8]) -> usize {
     reader::read(sheet).map_or(0, |sheet| FIELD_BYTES * sheet.limits.len())
 }
 
-/// Whether a clash is due, for a buffer of `room` bytes, or the first refusal in document 01's
-/// order.
-fn due(sheet: &[u8], clash: bool, room: usize) -> Result<bool, Refusal> {
+/// The clash that is due, if there is one, for a buffer of `room` bytes, or the first refusal in
+/// document 01's order.
+fn due<'a>(
+    sheet: &[u8],
+    first: Option<&'a Filling>,
+    room: usize,
+) -> Result<Option<&'a Filling>, Refusal> {
     reader::read(sheet)?;
     if room < filling_bytes(sheet) {
         return Err(Refusal::BufferBelowFilling);
     }
-    Ok(clash)
+    Ok(first)
 }
 
-/// The lengths of the clash that the search gives, if it gives one.
-pub fn lengths_given(sheet: &[u8]) -> Option<Vec<u8>> {
+/// The clash that the search gives, if it gives one.
+pub fn given(sheet: &[u8]) -> Option<Filling> {
     let got = engine::search(sheet, ROOMY);
-    let fields = got.lent[..filling_bytes(sheet)].chunks(FIELD_BYTES);
-    (got.status == 1).then(|| fields.map(|field| field[0]).collect())
+    (got.status == 1).then(|| fillings::decode(&got.lent[..filling_bytes(sheet)]))
 }
 
-/// Holds the lengths of the clash that the search gives to the first at which anything clashes.
-fn require_first(sheet: &[u8], tried: &Tried) {
-    let lengths = lengths_given(sheet);
-    require(
-        lengths.as_deref() == tried.first(),
-        "the clash that the search gives has not the first lengths",
-        &[
-            ("sheet", &Hex(sheet)),
-            ("lengths", &format!("{lengths:?}")),
-            ("first", &format!("{:?}", tried.first())),
-        ],
-    );
-}
-
-/// What is special about a filling that was found.
-fn kind(filling: &[u8]) -> &'static str {
+/// What is special about a filling that is due.
+fn kind(filling: &Filling) -> &'static str {
     if filling.is_empty() {
         "clash, no fields"
-    } else if filling.chunks(FIELD_BYTES).any(|field| field[0] == 0) {
+    } else if filling.iter().any(Vec::is_empty) {
         "clash, an empty text"
     } else {
         "clash"
     }
 }
 
-/// Holds a filling that was found to both checkers.
+/// Holds a filling that is due to both checkers.
 fn require_clash(sheet: &[u8], filling: &[u8]) {
     let plain = speller::check(sheet, filling);
     let checked = engine::check(sheet, filling);
     require(
         plain == Ok(Verdict::Clash) && checked == test::due(1, &[]),
-        "the filling that the search gives does not clash",
+        "the filling that the search is to give does not clash",
         &[
             ("sheet", &Hex(sheet)),
             ("filling", &Hex(filling)),
@@ -234,7 +236,10 @@ const KNOWN: [(i64, &[u8], usize); 16] = [
 /// Holds what is due here to document 01's own answers, and the library too.
 fn known(searches: &mut Searches) {
     for (status, sheet, room) in KNOWN {
-        let due = due(sheet, status == 1, room).map_or_else(test::status, i64::from);
+        let read = reader::read(sheet);
+        let first = read.ok().and_then(|sheet| first::clash(&sheet));
+        let due = due(sheet, first.as_ref(), room);
+        let due = due.map_or_else(test::status, |clash| i64::from(clash.is_some()));
         require(
             due == status,
             "document 01 has another answer",
@@ -245,7 +250,7 @@ fn known(searches: &mut Searches) {
                 ("due", &status),
             ],
         );
-        searches.compare_in(sheet, status == 1, &[room]);
+        searches.compare_in(sheet, first.as_ref(), &[room]);
     }
 }
 
@@ -262,32 +267,50 @@ fn all_buffers(searches: &mut Searches) {
         SIX_APART,
     ] {
         let tried = question::try_all(&reader::accepted(sheet));
-        searches.compare_in(sheet, tried.clash, &rooms);
-        require_first(sheet, &tried);
+        searches.compare_in(sheet, tried.first(), &rooms);
     }
 }
 
-/// Document 01's examples, then sheets made by chance, each with the answer of brute force.
+/// Document 01's examples, then sheets made by chance, each with the first clash of all fillings. The
+/// plain search is held to it too.
 fn small(searches: &mut Searches) {
     let mut met = Met::new(shapes::OF_SMALL);
     let mut reasons = Tally::new("small sheets", &REASONS, 0..0);
     let mut spreads = Tally::new("small sheets", &SPREADS, 0..0);
+    let names = WRONG.map(|wrong| wrong.name);
+    let mut orders = Tally::new("small sheets with another first clash by", &names, 0..0);
     let examples = examples::sheets().into_iter().map(reader::accepted);
     let made = (0..SMALL).map(|_| small_sheet(&mut searches.random));
     let sheets: Vec<Sheet> = examples.chain(made).collect();
     for sheet in &sheets {
         let tried = question::try_all(sheet);
         let bytes = sheets::encode(sheet);
-        searches.compare(&bytes, tried.clash);
-        require_first(&bytes, &tried);
-        met.count(sheet, tried.clash);
+        let first = tried.first();
+        searches.compare(&bytes, first);
+        let plain = first::clash(sheet);
+        require(
+            plain.as_ref() == first,
+            "the plain search does not give the first clash of all fillings",
+            &[
+                ("sheet", &Hex(&bytes)),
+                ("plain", &format!("{plain:?}")),
+                ("first", &format!("{first:?}")),
+            ],
+        );
+        met.count(sheet, tried.clash());
         reasons.count(Ok(tried.reason));
-        if let Some(spread) = tried.spread() {
+        if let (Some(first), Some(spread)) = (first, tried.spread()) {
             spreads.count(Ok(spread));
+            for wrong in &WRONG {
+                if wrong.differs(sheet, &tried.clashes, first) {
+                    orders.count(Ok(wrong.name));
+                }
+            }
         }
     }
     reasons.finish_at(LEAST_OF_EACH_REASON);
     spreads.finish_at(LEAST_OF_EACH_SPREAD);
+    orders.finish_at(LEAST_OF_EACH_ORDER);
     met.finish(LEAST_OF_EACH_ANSWER, LEAST_OF_EACH_SHAPE);
     println!(
         "outside: brute force agrees with the search on {} small sheets: {} clash, {} apart",
@@ -304,31 +327,84 @@ fn small_sheet(random: &mut Random) -> Sheet {
         small::wide(random)
     } else if random.chance(SPLIT_PERCENT) {
         small::split(random)
+    } else if random.chance(TRADED_PERCENT) {
+        small::traded(random)
     } else {
         small::sheet(random)
     }
 }
 
-/// Sheets of all sizes in which a filling was made to clash.
+/// Sheets of all sizes in which a filling was made to clash. The first clash is not after that one.
 fn planted(searches: &mut Searches) {
+    let mut before = 0;
     for turn in 0..PLANTED {
         let random = &mut searches.random;
-        let sheet = match turn % 3 {
-            0 => planted::clashing(random, sheets::valid).0,
-            1 => planted::clashing(random, sheets::largest).0,
+        let (sheet, planted) = match turn % 3 {
+            0 => planted::clashing(random, sheets::valid),
+            1 => planted::clashing(random, sheets::largest),
             _ => full(random),
         };
-        searches.compare(&sheets::encode(&sheet), true);
+        let bytes = sheets::encode(&sheet);
+        let given = given(&bytes).unwrap_or_default();
+        require(
+            order::key(&given) <= order::key(&planted),
+            "the clash that the search gives is after one that is known",
+            &[
+                ("sheet", &Hex(&bytes)),
+                ("given", &format!("{given:?}")),
+                ("known", &format!("{planted:?}")),
+            ],
+        );
+        before += usize::from(given != planted);
+        searches.compare(&bytes, first::clash(&sheet).as_ref());
     }
+    println!("outside: sheets whose first clash is before the planted one: {before} of {PLANTED}");
+    require(
+        before >= LEAST_BEFORE_PLANTED,
+        "the planted clash is the first too often",
+        &[("before", &before)],
+    );
 }
 
-/// A largest sheet in which a full filling was made to clash, with rules that only such a one keeps.
-pub fn full(random: &mut Random) -> Sheet {
+/// A largest sheet in which a full filling was made to clash, with rules that only such a one keeps,
+/// and that filling.
+pub fn full(random: &mut Random) -> (Sheet, Filling) {
     let mut sheet = sheets::largest(random);
     let lengths = sheet.limits.clone();
-    planted::plant_parts(random, &mut sheet, &lengths);
+    let filling = planted::plant_parts(random, &mut sheet, &lengths);
     planted::only_full(&mut sheet);
-    sheet
+    (sheet, filling)
+}
+
+/// Sheets of all sizes, turned in each way: the search gives the same clash as before, or none again.
+fn turned(searches: &mut Searches) {
+    let names = TURNS.map(|turn| turn.name);
+    let mut clash = Tally::new("clashing sheets with another order of", &names, 0..0);
+    let mut apart = Tally::new("apart sheets with another order of", &names, 0..0);
+    for number in 0..TURNED {
+        let random = &mut searches.random;
+        let sheet = match number % 10 {
+            0 => planted::clashing(random, sheets::valid).0,
+            1 => planted::clashing(random, sheets::largest).0,
+            2 => (random.one_of(&FAMILIES.map(|family| family.make)))(random),
+            _ => small_sheet(random),
+        };
+        let given = given(&sheets::encode(&sheet));
+        for turn in &TURNS {
+            let turned = turned::by(turn, &mut searches.random, &sheet);
+            if turned != sheet {
+                searches.compare_in(&sheets::encode(&turned), given.as_ref(), &[ROOMY]);
+                let answers = if given.is_some() {
+                    &mut clash
+                } else {
+                    &mut apart
+                };
+                answers.count(Ok(turn.name));
+            }
+        }
+    }
+    clash.finish_at(LEAST_OF_EACH_TURN);
+    apart.finish_at(LEAST_OF_EACH_TURN);
 }
 
 /// Damaged sheets; those that are still accepted are passed over.
@@ -338,7 +414,7 @@ fn refused(searches: &mut Searches) {
         let mut bytes = sheets::encode(&sheets::valid(random));
         sheets::damage(random, &mut bytes);
         if reader::read(&bytes).is_err() {
-            searches.compare(&bytes, false);
+            searches.compare(&bytes, None);
         }
     }
 }
@@ -346,7 +422,13 @@ fn refused(searches: &mut Searches) {
 /// The sheets of tests/hard, with the time that each takes.
 fn hard(searches: &mut Searches) {
     for hard in hard::all() {
-        let took = searches.compare_in(&hard.sheet, hard.clash, &[ROOMY]);
+        let first = first::clash(&reader::accepted(&hard.sheet));
+        require(
+            first.is_some() == hard.clash,
+            "the plain search has another answer to a hard sheet",
+            &[("sheet", &hard.name), ("listed as a clash", &hard.clash)],
+        );
+        let took = searches.compare_in(&hard.sheet, first.as_ref(), &[ROOMY]);
         let answer = if hard.clash { "clash" } else { "apart" };
         println!(
             "outside: {}: {answer}, {:.3} s",

@@ -78,6 +78,43 @@ pub fn split(random: &mut Random) -> Sheet {
     sheet
 }
 
+/// A small sheet in which lengths can be traded: a rule asks for so much of all fields together, and
+/// counts one field more than another. Each field repeats one letter, or is free, or no template has
+/// it.
+pub fn traded(random: &mut Random) -> Sheet {
+    let l = random.within(2, 3);
+    let limits: Vec<u8> = (0..random.within(2, 3))
+        .map(|_| random.within(1, 5 - l) as u8)
+        .collect();
+    let mut pairs = Vec::new();
+    for field in 0..limits.len() as u8 {
+        let field = Symbol::Field(field);
+        let letter = Symbol::Letter(random.below(l) as u8);
+        let [left, right] = match random.below(3) {
+            0 => [vec![letter, field], vec![field, letter]],
+            1 => [vec![field], vec![field]],
+            _ => [vec![], vec![]],
+        };
+        pairs.push(Pair { left, right });
+    }
+    let coefficients: Vec<i8> = limits
+        .iter()
+        .map(|_| -(random.within(1, 4) as i8))
+        .collect();
+    let mut rule = Rule {
+        coefficients,
+        limit: 0,
+    };
+    let least = *writer::sums(&rule, &limits, limits.len()).start();
+    rule.limit = -(random.within(1, least.unsigned_abs() as usize) as i16);
+    Sheet {
+        letters: (b'a'..).take(l).collect(),
+        limits,
+        pairs,
+        rules: vec![rule],
+    }
+}
+
 /// A small sheet; few have no place for a letter in any field.
 fn plain(random: &mut Random) -> Sheet {
     loop {

@@ -43,11 +43,11 @@ pub fn run(solvers: &[Solver]) {
         for (solver, replied) in solvers.iter().zip(&replied) {
             for (question, reply) in questions.iter().zip(replied) {
                 hold(question, solver, reply);
-                hand_over(&mut replies, &question.asked, question.tried.clash, reply);
+                hand_over(&mut replies, &question.asked, question.tried.clash(), reply);
             }
         }
         for question in &questions {
-            met.count(&question.asked.accepted().sheet, question.tried.clash);
+            met.count(&question.asked.accepted().sheet, question.tried.clash());
             reasons.count(Ok(question.tried.reason));
         }
         println!(
@@ -115,7 +115,7 @@ fn hold(question: &Question, solver: &Solver, reply: &Reply) {
 
 /// What is wrong with a reply.
 fn compare(question: &Question, reply: &Reply) -> Result<(), String> {
-    match (reply.answer()?, question.tried.clash) {
+    match (reply.answer()?, question.tried.clash()) {
         (Answer::Satisfiable(listed), true) => {
             assignment::judge(question.asked.accepted(), &listed)
         }
