@@ -14,6 +14,9 @@ mod engine;
 #[path = "../../tests/outside/fillings.rs"]
 #[allow(dead_code)]
 mod fillings;
+#[path = "../../tests/outside/first.rs"]
+#[allow(dead_code)]
+mod first;
 #[path = "../../tests/outside/hard.rs"]
 #[allow(dead_code)]
 mod hard;

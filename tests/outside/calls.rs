@@ -23,6 +23,8 @@ pub struct Calls {
     pub made: usize,
     /// What was reached since this was last emptied. A sheet's refusal is `tpl_read`'s alone.
     pub reached: Vec<Reached>,
+    /// Clashes that were compared with the one that the search gives, which none may be before.
+    pub compared: Tally,
     tallies: Vec<Tally>,
 }
 
@@ -31,6 +33,7 @@ impl Calls {
         Calls {
             made: 0,
             reached: Vec::new(),
+            compared: Tally::new("other clashes", &["the search's own", "a later one"], 0..0),
             tallies: listed::tallies(),
         }
     }
@@ -198,7 +201,7 @@ impl Calls {
 
     /// Prints how often each answer came up, and fails if one came up less often than `least`.
     pub fn finish(&self, least: usize) {
-        for tally in &self.tallies {
+        for tally in self.tallies.iter().chain([&self.compared]) {
             tally.finish_on_a_line(least);
         }
     }

@@ -1,7 +1,7 @@
 //! The part of a turn of the fuzzer that is about ends: how long a buffer must be, which numbers and
 //! sizes there are, and how many lines.
 
-use crate::engine::filling_bytes;
+use crate::engine::{filling_bytes, Outcome};
 use crate::listed::{LONGEST_LINE, LONGEST_TEXT};
 use crate::refusal::Refusal;
 use crate::reply::MOST_BYTES;
@@ -63,7 +63,7 @@ impl Turn<'_> {
         if self.random.chance(BUFFERS_PERCENT) {
             self.text_buffers(answers.spell);
             self.line_buffers(answers.line);
-            self.filling_buffers(answers.search.status, answers.reply.status);
+            self.filling_buffers(&answers.search, &answers.reply);
         }
     }
 
@@ -105,17 +105,22 @@ impl Turn<'_> {
         }
     }
 
-    /// Nine bytes per field are long enough, and one less is not.
-    fn filling_buffers(&mut self, search: i64, reply: i64) {
+    /// Nine bytes per field are long enough, and one less is not. The filling is the same in a longer
+    /// buffer.
+    fn filling_buffers(&mut self, search: &Outcome<u8>, reply: &Outcome<u8>) {
         let reason = "a buffer is too short for a filling that it holds, or the other way round";
         let (sheet, text) = (&self.input.sheet[..], &self.input.reply[..]);
         let size = filling_bytes(sheet);
-        let searched = self.calls.search(sheet, size).status;
-        let replied = self.calls.reply(sheet, text, size).status;
-        for (first, just) in [(search, searched), (reply, replied)] {
-            let same = first == just || first == TOO_SHORT_FOR_FILLING;
-            let fits = same && just != TOO_SHORT_FOR_FILLING;
-            self.require(fits, reason, first, just);
+        let searched = self.calls.search(sheet, size);
+        let replied = self.calls.reply(sheet, text, size);
+        for (first, just) in [(search, &searched), (reply, &replied)] {
+            let (before, after) = (first.status, just.status);
+            let same = before == after || before == TOO_SHORT_FOR_FILLING;
+            let fits = same && after != TOO_SHORT_FOR_FILLING;
+            self.require(fits, reason, before, after);
+            let same = before == TOO_SHORT_FOR_FILLING || first.lent[..size] == just.lent[..size];
+            let reason = "the filling is another one in a longer buffer";
+            self.require(same, reason, before, after);
         }
         if size > 0 {
             let searched = self.calls.search(sheet, size - 1).status;

@@ -6,6 +6,7 @@ use crate::engine::{filling_bytes, Outcome};
 use crate::fillings;
 use crate::inputs::Input;
 use crate::listed::{self, LONGEST_TEXT};
+use crate::order;
 use crate::random::Random;
 use crate::reader;
 use crate::report::{require, Case, Hex};
@@ -93,12 +94,19 @@ impl Turn<'_> {
         }
     }
 
-    /// What clashes clashes in every call, and in a sheet that is apart nothing does.
+    /// What clashes clashes in every call, and no sooner than what the search gives; and in a sheet that
+    /// is apart nothing does.
     fn clashes(&mut self, answers: &Answers) {
         let pairs = answers.read.lent[2];
         let (search, reply) = (&answers.search, &answers.reply);
         if search.status == 1 {
             self.require_clash(&search.lent, pairs);
+            if reply.status == 0 {
+                self.require_first(&search.lent, &reply.lent);
+            }
+            if answers.check == 1 {
+                self.require_first(&search.lent, &self.input.filling);
+            }
         }
         if reply.status == 0 {
             self.require_clash(&reply.lent, pairs);
@@ -112,6 +120,21 @@ impl Turn<'_> {
             self.require(none, reason, answers.check, reply.status);
             self.try_fillings();
         }
+    }
+
+    /// No clash is before the one that the search gives.
+    fn require_first(&mut self, given: &[u8], other: &[u8]) {
+        let size = filling_bytes(&self.input.sheet);
+        let [given, other] =
+            [given, other].map(|bytes| order::key(&fillings::decode(&bytes[..size])));
+        let reason = "a clash is before the one that the search gives";
+        self.require(given <= other, reason, 1, 1);
+        let answer = if given == other {
+            "the search's own"
+        } else {
+            "a later one"
+        };
+        self.calls.compared.count(Ok(answer));
     }
 
     /// Fails on this input unless `holds`, with two of the answers.
