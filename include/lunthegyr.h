@@ -112,9 +112,12 @@ int64_t tpl_spell(const uint8_t *sheet, size_t n, uint64_t pair, uint64_t side, 
 #define TPL_RIGHT 1
 #define TPL_TEXT_MOST 24
 
-/* Searches a sheet for a filling that clashes. Returns TPL_CLASH if there is one, with such a filling in the first TPL_FIELD_BYTES bytes per field
- * of the buffer of cap bytes and the later ones unchanged; where there are several, any of them. Returns TPL_APART if there is none, with no byte
- * changed. A buffer of TPL_FILLING_MOST is always long enough. The slowest sheets that are known take some hundredths of a second.
+/* Searches a sheet for a filling that clashes. Returns TPL_CLASH if there is one, with the first such filling in the first TPL_FIELD_BYTES bytes per
+ * field of the buffer of cap bytes and the later ones unchanged. Returns TPL_APART if there is none, with no byte changed. A buffer of
+ * TPL_FILLING_MOST is always long enough. The slowest sheets that are known take some hundredths of a second.
+ * The first filling is the one with the least total length of all fields; of these the one with the shorter field 0, then the shorter field 1
+ * and so on; of these the one with the lower letter numbers, field by field from the left. All fields of the sheet count, also those that no
+ * template has.
  * Or it returns minus the number of the first refusal, which is one of tpl_read's, or else:
  *   TPL_BUFFER_BELOW_FILLING
  */

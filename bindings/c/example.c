@@ -1,4 +1,4 @@
-/* Reads a sheet from the file named on the command line, searches it, and prints a clash, or that there is none.
+/* Reads a sheet from the file named on the command line, searches it, and prints the first clash, or that there is none.
  *
  * After `rt staticlib engine`, this line builds it from the repository's folder:
  *

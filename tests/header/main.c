@@ -87,6 +87,10 @@ static void spelling(void) {
 static const uint8_t apart[15] = { 'T', 'P', 'L', 0, 1, 1, 1, 1, 0, 'A', 0, 1, 1, 128, 0 };
 static const uint8_t no_fields[12] = { 'T', 'P', 'L', 0, 1, 1, 0, 1, 0, 'A', 0, 0 };
 
+/* XY against YX, with the letters A and B and limits 2, where not both are empty; and its first clash, that Y is A. */
+static const uint8_t several[23] = { 'T', 'P', 'L', 0, 1, 2, 2, 1, 1, 'A', 'B', 2, 2, 2, 2, 128, 129, 129, 128, 255, 255, 255, 255 };
+static const uint8_t y_is_a[18] = { 0, 255, 255, 255, 255, 255, 255, 255, 255, 1, 0, 255, 255, 255, 255, 255, 255, 255 };
+
 static void searching(void) {
     uint8_t filling[TPL_FILLING_MOST], before[TPL_FILLING_MOST];
     memset(before, '.', sizeof before);
@@ -106,6 +110,8 @@ static void searching(void) {
     expect(memcmp(filling, is_a, sizeof is_a) == 0, "the clash is again X=A");
     expect(memcmp(filling + 9, before, sizeof filling - 9) == 0, "the bytes after the buffer stay");
     expect(tpl_check(sheet, 15, filling, 9) == TPL_CLASH, "what is found checks as a clash");
+    expect(tpl_search(several, 23, filling, sizeof filling) == TPL_CLASH, "a sheet with several clashes clashes");
+    expect(memcmp(filling, y_is_a, sizeof y_is_a) == 0, "of several clashes the first is given");
 }
 
 static void counting(void) {

@@ -81,7 +81,7 @@ fn clash(input: &Input, filling: &Filling) -> Vec<String> {
         ));
     }
     lines.push(
-        "This is one clash, and there may be others. After any change, ask again.".to_string(),
+        "This is the first clash; there may be others. After any change, ask again.".to_string(),
     );
     lines
 }

@@ -36,7 +36,7 @@ pub enum Checked {
 /// Whether some filling of a sheet clashes.
 #[derive(Clone, Copy, Debug, PartialEq, Eq, Hash)]
 pub enum Searched {
-    /// Some filling clashes, and one that does was handed over.
+    /// Some filling clashes, and the first that does was handed over.
     Clash,
     /// No filling clashes.
     Apart,

@@ -86,8 +86,9 @@ pub fn spell(
     call.outcome(engine::spell(sheet, pair, side, filling, text))
 }
 
-/// Searches a sheet for a filling that clashes. Answers [`Searched::Clash`] with such a filling in the first 9 bytes per field of `filling`
-/// and the later ones as they were; or [`Searched::Apart`] or one of the refusals 1 to 15 and 27, with all bytes as they were. A buffer of
+/// Searches a sheet for a filling that clashes. Answers [`Searched::Clash`] with the first such filling, in the order that
+/// [`Sheet::search`](crate::Sheet::search) tells, in the first 9 bytes per field of `filling` and the later ones as they were; or
+/// [`Searched::Apart`] or one of the refusals 1 to 15 and 27, with all bytes as they were. A buffer of
 /// [`FILLING_MOST`](crate::FILLING_MOST) is always long enough. The slowest sheets that are known take some hundredths of a second.
 ///
 /// ```

@@ -97,7 +97,9 @@ impl Sheet {
         Ok(text[..length].to_vec())
     }
 
-    /// A filling that clashes, any where there are several; or none: the sheet is apart. The slowest sheets that are known take a quarter
+    /// The first filling that clashes; or none: the sheet is apart. The first is the one with the least total length of all fields; of these
+    /// the one with the shorter field 0, then the shorter field 1 and so on; of these the one with the lower letter numbers, field by field
+    /// from the left. All fields of the sheet count, also those that no template has. The slowest sheets that are known take some hundredths
     /// of a second.
     ///
     /// ```
@@ -105,7 +107,8 @@ impl Sheet {
     ///
     /// // The fields 0 and 1, each of at most two letters, against AB.
     /// let sheet = Sheet::read(*b"TPL\x00\x01\x02\x02\x01\x00AB\x02\x02\x02\x02\x80\x81\x00\x01")?;
-    /// let filling = sheet.search().expect("A and B clash");
+    /// let filling = sheet.search().expect("nothing and AB clash, and A and B, and AB and nothing");
+    /// assert_eq!((filling.letters(0), filling.letters(1)), (&[][..], &[0, 1][..]));
     /// assert_eq!(sheet.check(&filling), Ok(Checked::Clash));
     ///
     /// // Field 0 twice, against A.
@@ -230,6 +233,17 @@ mod tests {
         assert_eq!(
             sheet.spell(4, Side::Left, &filling),
             Err(Refusal::PairNumber)
+        );
+    }
+
+    #[test]
+    fn of_several_clashes_the_first_is_found() {
+        // The fields 0 and 1 against 1 and 0, of limit 2; not both are empty.
+        let sheet = *b"TPL\x00\x01\x02\x02\x01\x01AB\x02\x02\x02\x02\x80\x81\x81\x80\xFF\xFF\xFF\xFF";
+        let sheet = Sheet::read(sheet).unwrap();
+        assert_eq!(
+            sheet.search(),
+            Some(Filling::from_letters(&[&[], &[0]]).unwrap())
         );
     }
 
