@@ -239,7 +239,8 @@ mod tests {
     #[test]
     fn of_several_clashes_the_first_is_found() {
         // The fields 0 and 1 against 1 and 0, of limit 2; not both are empty.
-        let sheet = *b"TPL\x00\x01\x02\x02\x01\x01AB\x02\x02\x02\x02\x80\x81\x81\x80\xFF\xFF\xFF\xFF";
+        let sheet =
+            *b"TPL\x00\x01\x02\x02\x01\x01AB\x02\x02\x02\x02\x80\x81\x81\x80\xFF\xFF\xFF\xFF";
         let sheet = Sheet::read(sheet).unwrap();
         assert_eq!(
             sheet.search(),
