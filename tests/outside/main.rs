@@ -45,6 +45,7 @@ mod random;
 mod reader;
 mod reading;
 mod refusal;
+mod reordered;
 mod replies;
 mod reply;
 mod report;
@@ -59,7 +60,6 @@ mod tally;
 mod test;
 mod texts;
 mod turn;
-mod turned;
 mod writer;
 mod writing;
 

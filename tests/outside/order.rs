@@ -16,7 +16,9 @@ pub fn lengths(filling: &Filling) -> Vec<usize> {
     filling.iter().map(Vec::len).collect()
 }
 
-/// An order that is not the one due: what is wrong with it, and what it compares.
+/// An order that is not the one due: what is wrong with it, and what it compares. One that compares
+/// the letters from the right is not among them, since it has the same first clash: of the clashes of
+/// the same lengths one has at every place the lowest letter that any of them has there.
 pub struct Wrong {
     pub name: &'static str,
     key: fn(&Sheet, &Filling) -> Key,

@@ -9,7 +9,6 @@ use crate::examples;
 use crate::fillings;
 use crate::first;
 use crate::hard;
-use crate::late::FAMILIES;
 use crate::met::Met;
 use crate::order::{self, WRONG};
 use crate::planted;
@@ -18,6 +17,7 @@ use crate::question::{self, REASONS, SPREADS};
 use crate::random::Random;
 use crate::reader::{self, Sheet};
 use crate::refusal::Refusal;
+use crate::reordered;
 use crate::report::{require, Case, Hex};
 use crate::shapes;
 use crate::sheets;
@@ -25,7 +25,6 @@ use crate::small;
 use crate::speller::{self, Filling, Verdict, FIELD_BYTES};
 use crate::tally::Tally;
 use crate::test;
-use crate::turned::{self, TURNS};
 use std::time::{Duration, Instant};
 
 const SMALL: usize = 100_000;
@@ -34,7 +33,6 @@ const WIDE_PERCENT: usize = 10;
 const SPLIT_PERCENT: usize = 8;
 const TRADED_PERCENT: usize = 8;
 const PLANTED: usize = 2000;
-const TURNED: usize = 20_000;
 const REFUSED: usize = 60_000;
 /// How many small sheets must clash and how many be apart, and how many have each reason, each
 /// spread of clashes and each shape. So many must have another first clash by each wrong order.
@@ -45,8 +43,6 @@ const LEAST_OF_EACH_SHAPE: usize = 500;
 const LEAST_OF_EACH_ORDER: usize = 300;
 /// In how many sheets with a planted clash the first must be another one.
 const LEAST_BEFORE_PLANTED: usize = 500;
-/// How many sheets that clash, and how many that are apart, must be turned in each way.
-const LEAST_OF_EACH_TURN: usize = 500;
 
 /// A buffer of 54 is to be long enough for every filling.
 pub const ROOMY: usize = 54;
@@ -67,7 +63,7 @@ pub fn run() {
     searches.part("searches with buffers of all lengths", all_buffers);
     searches.part("searches of small sheets", small);
     searches.part("searches of sheets with a planted clash", planted);
-    searches.part("searches of sheets that are turned", turned);
+    searches.part("searches of sheets in another order", reordered::run);
     searches.part("searches of refused sheets", refused);
     searches.part("searches of hard sheets", hard);
     searches.finish();
@@ -279,6 +275,7 @@ fn small(searches: &mut Searches) {
     let mut spreads = Tally::new("small sheets", &SPREADS, 0..0);
     let names = WRONG.map(|wrong| wrong.name);
     let mut orders = Tally::new("small sheets with another first clash by", &names, 0..0);
+    let mut alone = 0;
     let examples = examples::sheets().into_iter().map(reader::accepted);
     let made = (0..SMALL).map(|_| small_sheet(&mut searches.random));
     let sheets: Vec<Sheet> = examples.chain(made).collect();
@@ -301,6 +298,7 @@ fn small(searches: &mut Searches) {
         reasons.count(Ok(tried.reason));
         if let (Some(first), Some(spread)) = (first, tried.spread()) {
             spreads.count(Ok(spread));
+            alone += usize::from(tried.clashes.len() == 1);
             for wrong in &WRONG {
                 if wrong.differs(sheet, &tried.clashes, first) {
                     orders.count(Ok(wrong.name));
@@ -313,14 +311,16 @@ fn small(searches: &mut Searches) {
     orders.finish_at(LEAST_OF_EACH_ORDER);
     met.finish(LEAST_OF_EACH_ANSWER, LEAST_OF_EACH_SHAPE);
     println!(
-        "outside: brute force agrees with the search on {} small sheets: {} clash, {} apart",
+        "outside: brute force agrees with the search on {} small sheets: {} clash, \
+         {} of them in several ways, {} apart",
         met.total(),
         met.clash,
+        met.clash - alone,
         met.apart
     );
 }
 
-fn small_sheet(random: &mut Random) -> Sheet {
+pub fn small_sheet(random: &mut Random) -> Sheet {
     if random.chance(FAR_PERCENT) {
         small::far(random)
     } else if random.chance(WIDE_PERCENT) {
@@ -374,37 +374,6 @@ pub fn full(random: &mut Random) -> (Sheet, Filling) {
     let filling = planted::plant_parts(random, &mut sheet, &lengths);
     planted::only_full(&mut sheet);
     (sheet, filling)
-}
-
-/// Sheets of all sizes, turned in each way: the search gives the same clash as before, or none again.
-fn turned(searches: &mut Searches) {
-    let names = TURNS.map(|turn| turn.name);
-    let mut clash = Tally::new("clashing sheets with another order of", &names, 0..0);
-    let mut apart = Tally::new("apart sheets with another order of", &names, 0..0);
-    for number in 0..TURNED {
-        let random = &mut searches.random;
-        let sheet = match number % 10 {
-            0 => planted::clashing(random, sheets::valid).0,
-            1 => planted::clashing(random, sheets::largest).0,
-            2 => (random.one_of(&FAMILIES.map(|family| family.make)))(random),
-            _ => small_sheet(random),
-        };
-        let given = given(&sheets::encode(&sheet));
-        for turn in &TURNS {
-            let turned = turned::by(turn, &mut searches.random, &sheet);
-            if turned != sheet {
-                searches.compare_in(&sheets::encode(&turned), given.as_ref(), &[ROOMY]);
-                let answers = if given.is_some() {
-                    &mut clash
-                } else {
-                    &mut apart
-                };
-                answers.count(Ok(turn.name));
-            }
-        }
-    }
-    clash.finish_at(LEAST_OF_EACH_TURN);
-    apart.finish_at(LEAST_OF_EACH_TURN);
 }
 
 /// Damaged sheets; those that are still accepted are passed over.
