@@ -19,6 +19,8 @@ pub mod Seams
 pub mod Words
 pub mod Values
 pub mod Solvable
+pub mod Order
+pub mod First
 pub mod Shown
 pub mod Sums
 pub mod Templates

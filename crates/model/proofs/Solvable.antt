@@ -56,6 +56,9 @@ substitutions-legal l (n ∷ ns) =
     (λ t k. map-in _ (λ g. t ∷ g) (substitutions l ns) (weaken _ _ (substitutions l ns) (λ g e. one-more-in k e) (substitutions-legal l ns)))
     (texts-admitted l n))
 
+pub listed-legal : (s : Sheet) → All (Legal s) (everyLegal s)
+listed-legal s = substitutions-legal (length (s .letters)) (s .limits)
+
 -- The test is passed exactly when there is a solution.
 module _ (s : Sheet) where
   pub unsolvable : solvable s ≡ false → (g : Substitution) → Solves s g → ⊥
@@ -69,7 +72,7 @@ module _ (s : Sheet) where
   pub solvable-out : solvable s ≡ true → (g : Substitution) × Solves s g
   unfolding solvable
   solvable-out e =
-      let found = any-some (solves s) (Legal s) (everyLegal s) (substitutions-legal (length (s .letters)) (s .limits)) e in
+      let found = any-some (solves s) (Legal s) (everyLegal s) (listed-legal s) e in
       (found .0, solves-out s (found .0) (found .1) (found .2))
 
   pub none-unsolvable : ((g : Substitution) → Solves s g → ⊥) → solvable s ≡ false

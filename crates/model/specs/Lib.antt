@@ -3,5 +3,6 @@ pub mod Sheet
 pub mod Range
 pub mod Word
 pub mod Solvable
+pub mod Order
 pub mod Cells
 pub mod Filling
