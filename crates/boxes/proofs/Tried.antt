@@ -22,7 +22,7 @@ rows-same rows count a b h =
     all-same (λ i. rowHolds (drop (14 * i) rows) a) (λ i. rowHolds (drop (14 * i) rows) b) count (λ i _.
     ap₂ leb (side-same (drop (14 * i) rows) a b h) (side-same (drop 7 (drop (14 * i) rows)) a b h))
 
-start-same : (a b : List ℕ) → Same a b → startOf a ≡ startOf b
+pub start-same : (a b : List ℕ) → Same a b → startOf a ≡ startOf b
 unfolding startOf
 start-same a b h = rw (h 0 (omega arith), h 1 (omega arith), h 2 (omega arith), h 3 (omega arith), h 4 (omega arith), h 5 (omega arith))
 

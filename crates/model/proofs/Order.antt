@@ -3,7 +3,7 @@
 use mathlib.Core.Path.{_≡_, refl, sym, ap, ap₂, subst, _∙_}
 use mathlib.Core.Bool.{true, not, _&&_}
 use mathlib.Core.List.{List, [], _∷_, _++_, map}
-use mathlib.Core.Logic.{_⊎_, inl, inr, _↔_}
+use mathlib.Core.Logic.{_⊎_, inl, inr, ⊎-elim}
 use Prim.Native.Nat.{ℕ, zero, suc, _+_, _<_, _≤_}
 use native.Mathlib.Omega.{arith}
 use lib.Dec.{ltb, eqb}
@@ -12,7 +12,7 @@ use lib.Seq.{take-at, drop-at}
 use borrow.Author.Tests.{ltb-true, ltb-false, lt-ltb, le-ltb, eqb-true, eq-eqb}
 use Rattle.model.specs.Lists.{each, all}
 use Rattle.model.specs.Sheet.{Sheet}
-use Rattle.model.specs.Word.{Substitution, Legal}
+use Rattle.model.specs.Word.{Substitution, text, Legal}
 use Rattle.model.specs.Order.{Lex, totalLength, fieldLengths, fieldLetters, ranks, Earlier, lex, earlier}
 use Rattle.model.proofs.Lists.{never, by-test, and-split, and-join, or-cases, or-left, or-right}
 
@@ -119,8 +119,26 @@ unfolding Lex
 lex-second [] us vs h = h
 lex-second (x ∷ xs) us vs h = inr (refl, lex-second xs us vs h)
 
--- a list that is nowhere above another comes after it nowhere
-pub not-above : (xs ys : List ℕ) → ((i : ℕ) → i < length xs → getD xs i 0 ≤ getD ys i 0) → Lex ys xs → ⊥
+-- where two lists differ first
+pub record LowerAt (xs ys : List ℕ) : Type 0 where
+  pub at : ℕ
+  pub inside : at < length xs
+  pub same : (i : ℕ) → i < at → getD xs i 0 ≡ getD ys i 0
+  pub less : getD xs at 0 < getD ys at 0
+
+pub lex-place : (xs ys : List ℕ) → Lex xs ys → LowerAt xs ys
+unfolding Lex
+lex-place [] ys h = absurd h
+lex-place (x ∷ xs) [] h = absurd h
+lex-place (x ∷ xs) (y ∷ ys) (inl h) = record { at = 0; inside = omega arith; same = λ i k. absurd (omega arith); less = h }
+lex-place (x ∷ xs) (y ∷ ys) (inr h) = let r = lex-place xs ys (h .1) in record { at = suc (r .at); inside = omega (arith, r .inside); same = same-next r; less = r .less }
+  where
+    same-next : (r : LowerAt xs ys) (i : ℕ) → i < suc (r .at) → getD (x ∷ xs) i 0 ≡ getD (y ∷ ys) i 0
+    same-next r zero k = h .0
+    same-next r (suc i) k = r .same i (omega arith)
+
+-- a list that is nowhere above another does not come after it
+not-above : (xs ys : List ℕ) → ((i : ℕ) → i < length xs → getD xs i 0 ≤ getD ys i 0) → Lex ys xs → ⊥
 unfolding Lex
 not-above xs [] h k = k
 not-above [] (y ∷ ys) h k = k
@@ -155,6 +173,15 @@ letters-total : (g : Substitution) → length (fieldLetters g) ≡ totalLength g
 unfolding fieldLetters each totalLength
 letters-total [] = refl
 letters-total (t ∷ g) = length-append t (each g (λ t. t)) ∙ ap (λ n. length t + n) (letters-total g)
+
+-- of two substitutions with the same lengths: one that has a higher letter nowhere does not come after the other
+pub no-lower-letters : (g h : Substitution) → fieldLengths g ≡ fieldLengths h → ((f c : ℕ) → getD (text h f) c 0 ≤ getD (text g f) c 0) → Lex (fieldLetters g) (fieldLetters h) → ⊥
+unfolding fieldLetters each Lex
+no-lower-letters [] h n low k = k
+no-lower-letters (t ∷ g) [] n low k = omega (arith, ap length n)
+no-lower-letters (t ∷ g) (u ∷ h) n low k =
+    ⊎-elim (not-above u t (λ i l. low 0 i)) (λ q. no-lower-letters g h (ap (drop 1) n) (λ f c. low (suc f) c) (q .1))
+    (lex-parts t u (fieldLetters g) (fieldLetters h) (ap (λ (xs : List ℕ). getD xs 0 0) n) k)
 
 -- lengths and letters tell a substitution
 same-parts : (g h : Substitution) → fieldLengths g ≡ fieldLengths h → fieldLetters g ≡ fieldLetters h → g ≡ h

@@ -1,4 +1,5 @@
 pub mod Words
 pub mod Instances
+pub mod Vectors
 pub mod Right
 pub mod Twins

@@ -112,6 +112,16 @@ module _ (b : List ℕ) (h : List Field) (held : Held b h) where
       let is : valueOf h (cellByte u) ≡ value l g u = here .0 ∙ rw e in
       word-solid h (cellByte u) (map cellByte us) (λ q. omega (arith, here .1, sym is ∙ q)) ∙ rw (e, is, others))
 
+  -- a letter of a text is what stands at its place
+  pub letter-value : (f c : ℕ) → f < length (s .limits) → c < length (text g f) → getD (text g f) c 0 ≡ valueOf h (8 + 8 * f + c)
+  letter-value f c k l =
+      let v = field h f in
+      let whole : Whole v = at Whole h f noField (held .whole) (let n = held .six in let m = fields-few s (held .in-range) in omega arith) in
+      let t = meaning-at b h f k in
+      let size = ap length t ∙ text-length v whole in
+      let n = whole .short in
+      ap (λ (xs : List ℕ). getD xs c 0) t ∙ sym (place-inside v whole c 0 (omega arith)) ∙ sym (value-at h f c (omega arith))
+
   pub word-spells : (t : List Symbol) → All (SymbolIn l (length (s .limits))) t → word h (templateCells s t) ≡ spell g t
   word-spells t k = word-values (cells s t) (cells-in s t k) ∙ cells-spell s g (held .legal) t k
 

@@ -19,11 +19,10 @@ pub struct Ask {
     pub constraints: Marks,
 }
 
-// A substitution that answers what is asked, where there is one. Which one is not promised here: with `shortest` it is that of the first vector of lengths,
-// as `First` says of `lengths::first`.
-pub fn find(sheet: &[u8], ask: Ask, shortest: bool) -> Found
+// A substitution that answers what is asked, where there is one: the first in document 02's order (No. 1), if that is asked for; else any one.
+pub fn find(sheet: &[u8], ask: Ask, first: bool) -> Found
     requires { ⌜ Admitted (now sheet) × Asking (sheetOf (now sheet)) ask ⌝ }
-    ensures { λ r. ⌜ Finds (now (sheet .entry)) ask r ⌝ }
+    ensures { λ r. ⌜ Finds (now (sheet .entry)) ask first r ⌝ }
 {
     let mut x = [0u8; CELLS];
     let mut y = [0u8; CELLS];
@@ -48,6 +47,6 @@ pub fn find(sheet: &[u8], ask: Ask, shortest: bool) -> Found
         count,
         lo,
         hi,
-        shortest,
+        first,
     )
 }

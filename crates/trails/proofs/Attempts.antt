@@ -8,11 +8,11 @@ use native.Mathlib.Omega.{arith}
 use lib.ListN.{getD, drop}
 use lib.Seq.{getD-drop}
 use lib.Dec.{ltb, eqb}
-use borrow.Author.Tests.{ltb-true, eqb-true}
+use borrow.Author.Tests.{ltb-true, eqb-true, eqb-false}
 use Rattle.model.proofs.Lists.{never, by-test}
 use Rattle.fields.specs.declared.Field.{Field}
 use Rattle.unification.specs.declared.Found.{Found}
-use Rattle.unification.specs.Names.{settle, app, found, failed, Below, Refining}
+use Rattle.unification.specs.Names.{settle, app, valueOf, found, failed, Below, Refining}
 use Rattle.unification.specs.Names as names
 use Rattle.unification.proofs.Laws.{pick-ind, Renamed, unchanged, further, settled, value-renamed}
 use Rattle.walk.specs.Walk.{Letters, walkOn}
@@ -24,7 +24,7 @@ use Rattle.trails.specs.Equations.{Equation, Solves}
 use Rattle.trails.specs.Trail.{stepOf, walkAll, openTrail, renewTrail, Located, Follows}
 use Rattle.trails.specs.Attempt.{startTrail, settledTrail, attemptOf}
 use Rattle.trails.proofs.Trails.{step-other}
-use Rattle.trails.proofs.Box.{none-passed, located-none, rests-none, all-complete, kept}
+use Rattle.trails.proofs.Box.{KeepsAll, none-passed, located-none, rests-none, all-complete, kept}
 
 -- Several equations: an equality reached earlier survives what is unified later.
 solves-renamed : {g h : List Field} → Renamed g h → (es : List Equation) → Solves es g → Solves es h
@@ -120,11 +120,32 @@ attempt-sound l z es ls n =
     (settled-instance l z n (a .how) (all-inside l es 0 (startTrail n) ls (start-letters l z n)), solves-renamed (settled _) es (a .solves)))
     (λ lost. never)
 
-pub attempt-complete : (es : List Equation) (n : List ℕ) (s : ℕ → ℕ) → Refining s → Solves es (app s (startOf n)) → attemptOf es n .ok ≡ true
-unfolding attemptOf Reads
-attempt-complete es n s p h =
+walked : (s : ℕ → ℕ) → Refining s → (n : List ℕ) (es : List Equation) → Solves es (texts s n) → KeepsAll es 0 s (texts s n) (walkAll es 0 (startTrail n))
+unfolding Reads
+walked s p n es h =
     let given : Renamed (startOf n) (texts s n) = record { by = s; refines = p; is = refl } in
-    rw (all-complete s p (texts s n) es 0 (startTrail n) refl (located-none es 0) (λ u _. sym (value-renamed given u)) (rests-none es 0 (texts s n) h) .goes)
+    all-complete s p (texts s n) es 0 (startTrail n) refl (located-none es 0) (λ u _. sym (value-renamed given u)) (rests-none es 0 (texts s n) h)
+
+pub attempt-complete : (es : List Equation) (n : List ℕ) (s : ℕ → ℕ) → Refining s → Solves es (app s (startOf n)) → attemptOf es n .ok ≡ true
+unfolding attemptOf
+attempt-complete es n s p h = rw (walked s p n es h .goes)
+
+-- What it answers is nowhere above a solution with these lengths: at each place it has the letter that every such solution has there, or letter 0.
+settle-least : (s : ℕ → ℕ) → Refining s → (x : ℕ) → settle x ≤ s x
+settle-least s p x =
+    pick-ind (λ y. y ≤ s x) (ltb x 8)
+    (λ t. let e = p .letter x (ltb-true x 8 t) in omega arith)
+    (λ _. pick-ind (λ y. y ≤ s x) (eqb x 255) (λ q. let e : s x ≡ 255 = rw (eqb-true x 255 q) (p .blank) in omega arith) (λ _. omega arith))
+
+pub attempt-least : (es : List Equation) (n : List ℕ) (s : ℕ → ℕ) → Refining s → Solves es (app s (startOf n))
+    → (u : ℕ) → valueOf (attemptOf es n .substitution) u ≤ valueOf (app s (startOf n)) u
+unfolding attemptOf Reads
+attempt-least es n s p h u =
+    let k = walked s p n es h in
+    let g = walkAll es 0 (startTrail n) .substitution in
+    rw (k .goes, value-renamed (settled g) u) (by-test (eqb (valueOf g u) 254)
+    (λ e. rw (eqb-true (valueOf g u) 254 e) (omega arith))
+    (λ e. rw (sym (k .reads u (eqb-false (valueOf g u) 254 e))) (settle-least s p (valueOf g u))))
 
 -- The main theorem on boxes: where the walk of all equations fails, no attempt at lengths of the box succeeds.
 pub failed-none : (es : List Equation) (lo hi : List ℕ) (t : Trail) → Follows es lo hi t → walkAll es 0 t .ok ≡ false → (n : List ℕ) → Inside lo hi n → attemptOf es n .ok ≡ false

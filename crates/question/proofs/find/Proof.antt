@@ -164,11 +164,11 @@ returns c =
     let p = start put .pre in
     let a = start put .args .ask in
     let rows = gather .last .1 .1 .1 .0 in
-    let shortest = start put .args .shortest in
+    let first = start put .args .first in
     first-finds (start put .args .sheet .now) (p .0) a (p .1) rows (gather .result)
     (λ g legal. gathered-agrees (s put) (p .0 .1) g (a .equations) (a .constraints) _ rows (gather .result) (gather .ensures))
-    (Order shortest) (c .first .result)
-    (subst (λ (q : List Equation). First (tryOf q rows (gather .result)) (Within (a .lo) (a .hi)) (Order shortest) (c .first .result)) (equations-ahead put) (c .first .ensures))
+    first (c .first .result)
+    (subst (λ (q : List Equation). First (tryOf q rows (gather .result)) (Within (a .lo) (a .hi)) (Order first) (c .first .result)) (equations-ahead put) (c .first .ensures))
 
 pub find-spec : {M : Type 1} → statement M
 find-spec =
