@@ -9,7 +9,7 @@ ghost use Prim.Native.Nat.{ℕ, _*_, _<_, _≤_};
 ghost use lib.ListN.{length, getD};
 ghost use Rattle.model.specs.Sheet.{sheetOf, limit};
 ghost use Rattle.model.specs.Range.{Admitted};
-ghost use Rattle.calls.specs.Calls.{Searches};
+ghost use Rattle.calls.specs.Calls.{searching, Decides};
 ghost use Rattle.automaton.specs.Whole.{Whole, Settles};
 ghost use Rattle.automaton.specs.Answer.{numberOf, searched};
 
@@ -64,7 +64,7 @@ fn whole(sheet: &[u8]) -> Ask
     }
 }
 
-// A solution of an accepted sheet, where there is one.
+// The first solution of an accepted sheet, where there is one.
 fn solve(sheet: &[u8]) -> Found
     requires { ⌜ Admitted (now sheet) ⌝ }
     ensures { λ r. ⌜ Settles (now (sheet .entry)) r ⌝ }
@@ -79,7 +79,7 @@ fn solve(sheet: &[u8]) -> Found
 // Searches an accepted sheet, and hands over what is found once it has passed the check.
 fn hand_over(sheet: &[u8], buf: &mut [u8]) -> Verdict
     requires { ⌜ Admitted (now sheet) × (9 * length (sheetOf (now sheet) .limits) ≤ length (now buf)) ⌝ }
-    ensures { λ r. ⌜ Searches (now (sheet .entry)) (now (buf .entry)) (searched r) (now (buf .exit)) ⌝ }
+    ensures { λ r. ⌜ Decides (searching (now (sheet .entry)) (length (now (buf .entry)))) (now (buf .entry)) (searched r) (now (buf .exit)) ⌝ }
 {
     let found = solve(sheet);
     if !found.ok {
@@ -93,11 +93,11 @@ fn hand_over(sheet: &[u8], buf: &mut [u8]) -> Verdict
     Verdict::Solution
 }
 
-// Searches a sheet for a solution: if there is one, its filling's bytes fill the buffer's first 9 bytes for each field. Else that the sheet is
+// Searches a sheet for the first solution: if there is one, its filling's bytes fill the buffer's first 9 bytes for each field. Else that the sheet is
 // unsatisfiable, or the first refusal in document 01's order. Any bytes are allowed. Bytes after the filling, and without a solution all,
 // are as they were.
 pub fn search(sheet: &[u8], buf: &mut [u8]) -> Verdict
-    ensures { λ r. ⌜ Searches (now (sheet .entry)) (now (buf .entry)) (searched r) (now (buf .exit)) ⌝ }
+    ensures { λ r. ⌜ Decides (searching (now (sheet .entry)) (length (now (buf .entry)))) (now (buf .entry)) (searched r) (now (buf .exit)) ⌝ }
 {
     match sheet::read(sheet) {
         sheet::Reading::Refused(refusal) => Verdict::Refused(Refusal::Sheet(refusal)),

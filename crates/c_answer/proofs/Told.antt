@@ -1,11 +1,11 @@
 -- What a number that is returned tells of an answer, whatever the call: 0 where it has to be a finished answer, a length where values are written.
 -- Refusals count from 1, so that minus one of them is never 0 or more. Assumes nothing.
-use mathlib.Core.Path.{_≡_, refl}
-use mathlib.Core.List.{List}
+use mathlib.Core.Path.{_≡_, refl, ap, _∙_}
+use mathlib.Core.List.{List, [], _∷_}
 use Prim.Native.Nat.{ℕ, zero, suc, _≤_}
 use native.Mathlib.Omega.{arith}
 use lib.IntN.{pos, negℤ}
-use Rattle.calls.specs.Calls.{Answer, refused, finished, sized, unnumbered}
+use Rattle.calls.specs.Calls.{Answer, refused, finished, sized, unnumbered, decision}
 use Rattle.calls.proofs.Operations.{Sized}
 use Rattle.c_answer.specs.Returned.{returned, returnedNumber}
 
@@ -29,6 +29,15 @@ pos-equal e = cc
 pub length-told : (a : Answer) (n : ℕ) → ((k : ℕ) → a ≡ refused k → 1 ≤ k) → returnedNumber (sized a) ≡ pos n → Sized a n
 length-told (refused k) n h e = negative k (h k refl) e
 length-told (finished values) n h e = record { text = values; is = refl; count = pos-equal e }
+
+-- a call that decides returns what it decides
+pub same-decision : (a : Answer) → returnedNumber (decision a) ≡ returnedNumber a
+same-decision (refused n) = refl
+same-decision (finished []) = refl
+same-decision (finished (v ∷ others)) = refl
+
+pub decision-number : (a : Answer) {answer : Answer} → answer ≡ decision a → returnedNumber answer ≡ returnedNumber a
+decision-number a e = ap returnedNumber e ∙ same-decision a
 
 -- a call that answers no number returns the same
 pub same-returned : (a : Answer) → returned (unnumbered a) ≡ returned a

@@ -3,8 +3,7 @@ use mathlib.Core.Path.{_≡_}
 use mathlib.Core.List.{List, [], _∷_}
 use Prim.Native.Nat.{ℕ}
 use lib.IntN.{ℤ, pos, negℤ}
-use lib.ListN.{length}
-use Rattle.calls.specs.Calls.{Answer, refused, finished, sized, written, searching, Clashed}
+use Rattle.calls.specs.Calls.{Answer, refused, finished, sized, written, handed}
 
 -- minus the refusal's number; 0 for a call whose values go to a lent array
 abbrev pub returned : Answer → ℤ
@@ -30,8 +29,6 @@ Handed a before r after = (r ≡ returnedNumber (sized a)) × (after ≡ written
 abbrev pub HandedOver : Answer → List ℕ → ℤ → List ℕ → Type 0
 HandedOver a before r after = (r ≡ returned a) × (after ≡ written a before)
 
--- a call that searches: 1 with a filling that clashes, and for any other number no byte changes
-pub record Sought (b before : List ℕ) (r : ℤ) (after : List ℕ) : Type 0 where
-  pub returns : r ≡ returnedNumber (searching b (length before))
-  pub clash : r ≡ pos 1 → Clashed b before after
-  pub others : (r ≡ pos 1 → ⊥) → after ≡ before
+-- a call that returns the first of the answer's values, and hands the others over in a lent buffer
+abbrev pub Decided : Answer → List ℕ → ℤ → List ℕ → Type 0
+Decided a before r after = (r ≡ returnedNumber a) × (after ≡ written (handed a) before)

@@ -7,7 +7,8 @@ use Rattle.model.specs.Lists.{startsWith, same, each, from, all, any, keep, tot
 use Rattle.model.specs.Sheet.{row, times, sides, anEquation, aConstraint, walk, width, signed, opening, read, sheetIn}
 use Rattle.model.specs.Word.{spell, weight, sameWord, equationHolds, constraintHolds, keeps, solves}
 use Rattle.model.specs.Solvable.{allTexts, substitutions, solvable}
-use Rattle.model.specs.Filling.{places, aText, texts, filling}
+use Rattle.model.specs.Order.{totalLength, fieldLetters, ranks, lex, earliest, firstSolution}
+use Rattle.model.specs.Filling.{places, aText, texts, filling, encodeFilling}
 use Rattle.calls.specs.Report.{report}
 use Rattle.model.specs.Cells.{cells}
 use Rattle.formula.specs.Clause.{terms, leftOut, literals, least, spread, sums, placeIds, locationIds, equationIds, constraintIds, listed, ids}
@@ -153,7 +154,7 @@ pub line-answers : map (λ (c : Line). writing (c .on) (c .number) (c .room)) li
 unfolding startsWith row times sides anEquation aConstraint walk width signed opening read each from any keep total cells terms leftOut literals least spread sums placeIds locationIds equationIds constraintIds listed ids kVariables sVariables tVariables variables number clause digits decimal problemLine clauseLine line writingOf writing
 line-answers = refl
 
--- Searching: 1 for a clash, 0 for apart.
+-- Searching: 1 for a clash, and the first filling that clashes; 0 for apart.
 pub record Search : Type 0 where
   pub on : List ℕ
   pub room : ℕ
@@ -161,11 +162,11 @@ pub record Search : Type 0 where
 
 abbrev searches : List Search
 searches =
-    record { on = P; room = 9; answer = finished (1 ∷ []) }
+    record { on = P; room = 9; answer = finished (1 ∷ nine 1 0 255) }
     -- only empty texts clash
-    ∷ record { on = asked; room = 18; answer = finished (1 ∷ []) }
+    ∷ record { on = asked; room = 18; answer = finished (1 ∷ (empty ++ empty)) }
     -- only a full field and an empty one, and a longer buffer
-    ∷ record { on = ruled; room = 54; answer = finished (1 ∷ []) }
+    ∷ record { on = ruled; room = 54; answer = finished (1 ∷ ((8 ∷ 0 ∷ 0 ∷ 0 ∷ 0 ∷ 0 ∷ 0 ∷ 0 ∷ 0 ∷ []) ++ empty)) }
     -- no fields: a buffer of none
     ∷ record { on = fieldless; room = 0; answer = finished (1 ∷ []) }
     -- P with limit 0
@@ -178,7 +179,7 @@ searches =
     ∷ []
 
 pub search-answers : map (λ (c : Search). searching (c .on) (c .room)) searches ≡ map (λ (c : Search). c .answer) searches
-unfolding startsWith row times sides anEquation aConstraint walk width signed opening read each from all any same spell weight sameWord equationHolds constraintHolds keeps solves allTexts substitutions solvable searchingOf searching
+unfolding startsWith row times sides anEquation aConstraint walk width signed opening read each from all any same spell weight sameWord equationHolds constraintHolds keeps solves allTexts substitutions solvable keep totalLength fieldLetters ranks lex earliest firstSolution encodeFilling searchingOf searching
 search-answers = refl
 
 -- What the programs print for document 01's sheet P and X=A: "`clash`, `field 0=A`, `pair 0=A`".

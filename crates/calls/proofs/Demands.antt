@@ -12,30 +12,31 @@ use Rattle.model.specs.Sheet.{Sheet, template, read, encode, isAccepted, Accept
 use Rattle.model.specs.Range.{InRange}
 use Rattle.model.specs.Word.{Substitution, letterBytes, spell, Solves}
 use Rattle.model.specs.Solvable.{solvable}
+use Rattle.model.specs.Order.{firstSolution}
 use Rattle.model.specs.Filling.{encodeFilling}
 use Rattle.formula.specs.Clause.{ids, idAt}
 use Rattle.formula.specs.Numbering.{variables, number, clause}
 use Rattle.formula.specs.Dimacs.{decimal, valueOf, problemLine, line, numbers, file, allowance}
 use Rattle.formula.specs.Assignment.{Assignment, Satisfies, spelled}
 use Rattle.calls.specs.Reply.{Lists}
-use Rattle.calls.specs.Calls.{Answer, refused, finished, reading, verdict, checking, spelling, Writes, Searches, counting, writing, HandsOver, replying}
+use Rattle.calls.specs.Calls.{Answer, refused, finished, reading, verdict, checking, spelling, Writes, searching, Decides, counting, writing, HandsOver, replying}
 use Rattle.calls.specs.Rules.{Rule, Kept, First, sheetRules, fillingRules, afterSheet, spellingRules, roomRule, writingRules, replyingRules}
 use Rattle.model.proofs.Lists.{append-in, append-out}
 use Rattle.model.proofs.Reading.{read-encode}
 use Rattle.model.proofs.Known.{accepted-bytes, accepted-in-range}
 use Rattle.calls.proofs.Read.{reading-accepted, reading-counts}
 use Rattle.calls.proofs.Operations.{not-finished, writing-line, counting-counts}
-use Rattle.calls.proofs.Passed.{verdict-clash, FillingOf, answered, checking-decides, passed-solves, solves-passed, spelled-text}
+use Rattle.calls.proofs.Passed.{verdict-same, FillingOf, answered, checking-decides, passed-solves, solves-passed, spelled-text}
 use Rattle.formula.proofs.Numbering.{numbering, variable-count}
 use Rattle.formula.proofs.Figures.{decimal-value}
 use Rattle.formula.proofs.Lines.{numbers-line, file-fits}
 use Rattle.model.proofs.Solvable.{solvable-in, solvable-out, none-unsolvable}
-use Rattle.calls.proofs.Searching.{searching-verdict, apart-no-clash, clash-taken, clash-later}
+use Rattle.calls.proofs.Searching as searches
 use Rattle.formula.proofs.Satisfiable as clauses
 use Rattle.calls.proofs.Untrusted as replies
 use Rattle.calls.proofs.Listings.{has-listing}
 use Rattle.calls.proofs.Ordered.{Ordered, kept-goes, first-fails, first-or-none}
-use Rattle.calls.proofs.FirstRefusals.{reading-ordered, checking-ordered, spelling-ordered, searching-ordered, counting-ordered, writing-ordered, replying-ordered, sized-ordered, unnumbered-ordered}
+use Rattle.calls.proofs.FirstRefusals.{reading-ordered, checking-ordered, spelling-ordered, searching-ordered, counting-ordered, writing-ordered, replying-ordered, sized-ordered, unnumbered-ordered, decision-ordered}
 
 -- Demand 1, of all inputs. The rules of each call stand in document 01's order in specs/Rules.
 pub record InOrder (rules : List Rule) (answer : Answer) : Type 0 where
@@ -99,10 +100,9 @@ module _ (b : List ℕ) where
       λ n e. replies.refused-unchanged b t before after answer call e,
     )
 
-    pub searching-gives-the-first-refusal : Searches b before answer after
+    pub searching-gives-the-first-refusal : Decides (searching b (length before)) before answer after
         → InOrder (afterSheet b (λ s. roomRule (length before) s ∷ [])) answer × Unchanged answer before after
-    searching-gives-the-first-refusal call =
-        (rw (call .answers) (in-order (searching-ordered b (length before))), λ n e. call .others (λ c. not-finished (sym e ∙ c)))
+    searching-gives-the-first-refusal call = (rw (call .0) (in-order (decision-ordered (searching-ordered b (length before)))), searches.refused-unchanged (searching b (length before)) call)
 
   -- "A sheet is accepted when it breaks none of the rules under Reading."
   pub accepted-breaks-none : Accepted b ↔ Kept (sheetRules b)
@@ -193,21 +193,26 @@ module _ (b : List ℕ) (y : Bytes b) where
 
   -- "With a long enough buffer the search answers clash exactly when there is a filling that clashes, and the filling it then hands over is one
   -- that does; otherwise it answers apart."
-  module _ (before after : List ℕ) (answer : Answer) (call : Searches b before answer after) (ok : Accepted b) (enough : fillingBytes b ≤ length before) where
+  module _ (before after : List ℕ) (answer : Answer) (call : Decides (searching b (length before)) before answer after) (ok : Accepted b) (enough : fillingBytes b ≤ length before) where
     decides : answer ≡ verdict (solvable (sheetOf b))
-    decides = call .answers ∙ searching-verdict b (length before) ok enough
+    decides = call .0 ∙ searches.searching-verdict b (length before) ok enough
+
+    -- the call, its answer being told
+    answered-as : {a : Answer} → answer ≡ a → Decides (searching b (length before)) before a after
+    answered-as e = (sym e ∙ call .0, call .1)
 
     pub search-answers-clash-exactly : (answer ≡ verdict true) ↔ ((g : Substitution) × Solves (sheetOf b) g)
     search-answers-clash-exactly =
-        ((λ e. solvable-out (sheetOf b) (verdict-clash (solvable (sheetOf b)) (sym decides ∙ e))), λ h. decides ∙ ap verdict (solvable-in (sheetOf b) (h .0) (h .1)))
+        ((λ e. solvable-out (sheetOf b) (verdict-same (solvable (sheetOf b)) true (sym decides ∙ e))), λ h. decides ∙ ap verdict (solvable-in (sheetOf b) (h .0) (h .1)))
 
     pub search-hands-over-a-clash : answer ≡ verdict true → HandsOverAClash b before after
-    search-hands-over-a-clash e = handed-over before after (clash-taken b before after (call .clash e)) (clash-later b before after (call .clash e))
+    search-hands-over-a-clash e =
+        (firstSolution (sheetOf b), searches.clash-solves b before after (answered-as e), searches.clash-handed b before after (answered-as e) y)
 
     pub search-else-answers-apart : (((g : Substitution) × Solves (sheetOf b) g) → ⊥) → (answer ≡ verdict false) × (after ≡ before)
     search-else-answers-apart none =
         let e = decides ∙ ap verdict (none-unsolvable (sheetOf b) (λ g h. none (g, h))) in
-        (e, call .others (λ c. apart-no-clash (sym e ∙ c)))
+        (e, searches.apart-unchanged b before after (answered-as e))
 
   module _ (ok : Accepted b) where
     -- "The clauses can be satisfied exactly when there is a filling that clashes."

@@ -13,11 +13,10 @@ use Rattle.model.specs.Sheet as sheet
 use Rattle.model.specs.Sheet.{Sheet, Step, got, fault, _then_, must, Role, letterByte, limitByte, countByte, templateByte, coefficientByte, mostByte, passes, refusalOf, width, row, times, sides, anEquation, aConstraint, walk, opening, byte, Counts, countsAt, ended, read, countsOf, sheetOf}
 use Rattle.model.specs.Word.{Substitution, solves}
 use Rattle.model.specs.Filling.{places, aText, texts, filling, encodeFilling, substitutionIn}
-use Rattle.model.specs.Solvable.{solvable}
 use Rattle.formula.specs.Dimacs.{line}
 use Rattle.formula.specs.Assignment.{spelled}
 use Rattle.calls.specs.Reply.{assigned}
-use Rattle.calls.specs.Calls.{Answer, refused, finished, ofSheet, ofFilling, require, fourCounts, reading, verdict, checking, spelledText, spellingOf, spelling, searchingOf, searching, clauseCounts, counting, writingOf, writing, formed, decoding, replyingOf, replying, sized, unnumbered}
+use Rattle.calls.specs.Calls.{Answer, refused, finished, ofSheet, ofFilling, require, fourCounts, reading, verdict, checking, spelledText, spellingOf, spelling, searchValues, searchingOf, searching, decision, clauseCounts, counting, writingOf, writing, formed, decoding, replyingOf, replying, sized, unnumbered}
 use Rattle.calls.specs.Rules.{Rule, _asks_, rowRules, severalRules, past, symbolsAt, sidesRules, equationRules, equationBytes, constraintRules, constraintsAt, endAt, walkRules, openingRules, sheetRules, placeRules, textRules, fillingRules, afterSheet, spellingRules, roomRule, writingRules, replyingRules}
 use Rattle.model.proofs.Lists.{by-test}
 use Rattle.calls.proofs.Ordered.{inOrder, order-through, order-append, kept-goes, first-fails, Ordered, ordered-after, Follows, order-then, follows-from, follows-then, follows-wrapped, follows-got, follows-must}
@@ -197,7 +196,7 @@ spelling-ordered b p side m room = after-sheet b _ (spellingRules p side m room)
 
 pub searching-ordered : (b : List ℕ) (room : ℕ) → Ordered (afterSheet b (λ s. roomRule room s ∷ [])) (searching b room)
 unfolding searching searchingOf inOrder
-searching-ordered b room = after-sheet b _ (λ s. roomRule room s ∷ []) (λ s. record { values = pick (solvable s) 1 0 ∷ []; is = refl })
+searching-ordered b room = after-sheet b _ (λ s. roomRule room s ∷ []) (λ s. record { values = searchValues s; is = refl })
 
 pub counting-ordered : (b : List ℕ) → Ordered (sheetRules b) (counting b)
 unfolding counting
@@ -211,9 +210,12 @@ pub replying-ordered : (b t : List ℕ) (room : ℕ) → Ordered (afterSheet b (
 unfolding replying replyingOf formed decoding replyingRules inOrder
 replying-ordered b t room = after-sheet b _ (replyingRules t room) (λ s. record { values = encodeFilling (spelled s (assigned t)); is = refl })
 
--- a call that answers the length of its values, or no number, is ordered as its values are
+-- a call that answers the length of its values, or no number, or the first of them, is ordered as its values are
 pub sized-ordered : {rules : List Rule} {a : Answer} → Ordered rules a → Ordered rules (sized a)
 sized-ordered {rules} h = record { values = length (h .values) ∷ []; is = ap sized (h .is) ∙ order-through sized refused refused (λ n. refl) rules (finished (h .values)) }
 
 pub unnumbered-ordered : {rules : List Rule} {a : Answer} → Ordered rules a → Ordered rules (unnumbered a)
 unnumbered-ordered {rules} h = record { values = []; is = ap unnumbered (h .is) ∙ order-through unnumbered refused refused (λ n. refl) rules (finished (h .values)) }
+
+pub decision-ordered : {rules : List Rule} {a : Answer} → Ordered rules a → Ordered rules (decision a)
+decision-ordered {rules} h = record { values = take 1 (h .values); is = ap decision (h .is) ∙ order-through decision refused refused (λ n. refl) rules (finished (h .values)) }

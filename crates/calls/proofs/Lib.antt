@@ -14,5 +14,6 @@ pub mod Untrusted
 pub mod Ordered
 pub mod FirstRefusals
 pub mod Demands
+pub mod FirstClash
 pub mod Listings
 pub mod Printing

@@ -22,9 +22,11 @@ use Rattle.model.proofs.Templates.{template-room}
 use Rattle.calls.proofs.Operations.{sheet-accepted, sheet-finished, required, filling-finished, spelling-on, spelling-text, same-values}
 
 -- the answer is clash where the test passes, and else not
-pub verdict-clash : (t : Bool) → verdict t ≡ verdict true → t ≡ true
-verdict-clash true e = refl
-verdict-clash false e = let z : _≡_ {A = ℕ} 0 1 = cc in absurd (omega arith)
+pub verdict-same : (t u : Bool) → verdict t ≡ verdict u → t ≡ u
+verdict-same true true e = refl
+verdict-same false false e = refl
+verdict-same true false e = let z : _≡_ {A = ℕ} 0 1 = cc in absurd (omega arith)
+verdict-same false true e = let z : _≡_ {A = ℕ} 0 1 = cc in absurd (omega arith)
 
 -- The bytes m are a filling of the accepted sheet b: those of a legal substitution g.
 pub record FillingOf (b m : List ℕ) (g : Substitution) : Type 0 where
@@ -47,7 +49,7 @@ module _ (b m : List ℕ) (y : Bytes b) where
     solves-passed k = checking-decides ∙ ap verdict (solves-in (sheetOf b) g k)
 
     pub passed-solves : checking b m ≡ finished (1 ∷ []) → Solves (sheetOf b) g
-    passed-solves e = solves-out (sheetOf b) g (h .legal) (verdict-clash (solves (sheetOf b) g) (sym checking-decides ∙ e))
+    passed-solves e = solves-out (sheetOf b) g (h .legal) (verdict-same (solves (sheetOf b) g) true (sym checking-decides ∙ e))
 
     -- and else the answer is "no clash"
     pub fails-not-passed : (Solves (sheetOf b) g → ⊥) → checking b m ≡ finished (0 ∷ [])

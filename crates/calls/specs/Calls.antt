@@ -1,15 +1,16 @@
 -- The answer of every public call on all inputs, refused ones too.
 use mathlib.Core.Path.{_≡_}
-use mathlib.Core.Bool.{Bool, true}
+use mathlib.Core.Bool.{Bool}
 use mathlib.Core.List.{List, [], _∷_, _++_}
 use Prim.Native.Nat.{ℕ, _*_}
 use lib.Dec.{leb, ltb}
-use lib.ListN.{length, drop}
+use lib.ListN.{length, take, drop}
 use Rattle.model.specs.Lists.{pick, all}
 use Rattle.model.specs.Sheet as sheet
 use Rattle.model.specs.Sheet.{Sheet, Step, got, fault, Counts, countsOf, Reading, read, template}
 use Rattle.model.specs.Word.{Substitution, letterBytes, spell, solves}
 use Rattle.model.specs.Solvable.{solvable}
+use Rattle.model.specs.Order.{firstSolution}
 use Rattle.model.specs.Filling.{filling, encodeFilling}
 use Rattle.formula.specs.Clause.{ids}
 use Rattle.formula.specs.Numbering.{variables}
@@ -84,26 +85,29 @@ written (finished values) buffer = values ++ drop (length values) buffer
 abbrev pub Writes : Answer → List ℕ → Answer → List ℕ → Type 0
 Writes a before answer after = (answer ≡ sized a) × (after ≡ written a before)
 
--- Searching: "27 buffer shorter than 9 × V." The answer is clash or apart, 1 or 0; demand 3: "With a long enough buffer the search answers
--- clash exactly when there is a filling that clashes".
+-- Searching: "27 buffer shorter than 9 × V." The values are 1, for clash, and then the bytes of the first solution (document 02, No. 1: "The search is
+-- to give the first clash."); or 0, for apart.
+abbrev pub searchValues : Sheet → List ℕ
+searchValues s = pick (solvable s) (1 ∷ encodeFilling (firstSolution s)) (0 ∷ [])
+
 unfoldable pub searchingOf : Sheet → ℕ → Answer
-searchingOf s room = require (leb (9 * length (s .limits)) room) 27 (verdict (solvable s))
+searchingOf s room = require (leb (9 * length (s .limits)) room) 27 (finished (searchValues s))
 
 unfoldable pub searching : List ℕ → ℕ → Answer
 searching b room = ofSheet (read b) (λ s. searchingOf s room)
 
--- "A clash fills the first 9 × V bytes and no more". "Which clash is given is free; that it clashes is not.": some bytes that check as a
--- clash of the sheet b stand at the front of the buffer, and what follows them is as before.
-pub record Clashed (b before after : List ℕ) : Type 0 where
-  pub bytes : List ℕ
-  pub clashes : checking b bytes ≡ verdict true
-  pub handed : after ≡ bytes ++ drop (length bytes) before
+-- A call that answers the first of its values and hands the others over: "A clash fills the first 9 × V bytes and no more; apart changes none." Refused, "no
+-- lent byte changes". `Decides` says both of an answer and of a buffer before and after.
+abbrev pub decision : Answer → Answer
+decision (refused n) = refused n
+decision (finished values) = finished (take 1 values)
 
--- What a search of the sheet b does: its answer, and the lent buffer before and after. "apart changes none"; refused, "no lent byte changes".
-pub record Searches (b before : List ℕ) (answer : Answer) (after : List ℕ) : Type 0 where
-  pub answers : answer ≡ searching b (length before)
-  pub clash : answer ≡ verdict true → Clashed b before after
-  pub others : (answer ≡ verdict true → ⊥) → after ≡ before
+abbrev pub handed : Answer → Answer
+handed (refused n) = refused n
+handed (finished values) = finished (drop 1 values)
+
+abbrev pub Decides : Answer → List ℕ → Answer → List ℕ → Type 0
+Decides a before answer after = (answer ≡ decision a) × (after ≡ written (handed a) before)
 
 -- Counting: "no refusal of its own. The answer is the variable count, the clause count C, and the size allowance (C+1) × 80".
 abbrev pub clauseCounts : Sheet → List ℕ

@@ -1,17 +1,17 @@
 -- The text that the programs print: for a clash the search and reply programs, where a sheet is apart the search program, for a refusal
 -- each, and the clause program's file. "prints `clash`, `field 0=A`, `pair 0=A`: each field's number and text, each pair's number and text." Every line ends in 0x0A. Fields
 -- and pairs are few, so that a number is one digit.
-use mathlib.Core.Path.{_≡_}
-use mathlib.Core.Bool.{true, false}
 use mathlib.Core.List.{List, [], _∷_, _++_}
 use Prim.Native.Nat.{ℕ, _+_, _*_}
 use lib.ListN.{length}
-use Rattle.model.specs.Lists.{each, upTo}
-use Rattle.model.specs.Sheet.{Sheet, equation, read, sheetOf}
+use Rattle.model.specs.Lists.{pick, each, upTo}
+use Rattle.model.specs.Sheet.{Sheet, equation, read}
 use Rattle.model.specs.Word.{Substitution, text, spell, letterBytes}
+use Rattle.model.specs.Solvable.{solvable}
+use Rattle.model.specs.Order.{firstSolution}
 use Rattle.model.specs.Filling.{filling, substitutionIn}
 use Rattle.formula.specs.Dimacs.{decimal, file}
-use Rattle.calls.specs.Calls.{Answer, refused, finished, ofSheet, verdict, checking, searching}
+use Rattle.calls.specs.Calls.{Answer, refused, finished, ofSheet}
 
 -- "clash", and a line end
 abbrev pub clashLine : List ℕ
@@ -61,23 +61,18 @@ printed s (finished m) = report s (substitutionIn (filling s m))
 abbrev pub apartLine : List ℕ
 apartLine = 97 ∷ 112 ∷ 97 ∷ 114 ∷ 116 ∷ 10 ∷ []
 
--- The report of a filling that clashes: of some bytes that check as a clash of the sheet b.
-pub record Reported (b text : List ℕ) : Type 0 where
-  pub bytes : List ℕ
-  pub clashes : checking b bytes ≡ verdict true
-  pub is-report : text ≡ report (sheetOf b) (substitutionIn (filling (sheetOf b) bytes))
+-- What is printed for an answer whose values are a text's bytes.
+abbrev pub answerText : Answer → List ℕ
+answerText (refused n) = refusedLine n
+answerText (finished values) = values
 
--- What the search program prints for the sheet b, by the answer of a search with room for any filling, 54 bytes. "Which clash is given is
--- free; that it clashes is not."
-pub record SearchPrints (b text : List ℕ) : Type 0 where
-  pub refusal : (n : ℕ) → searching b 54 ≡ refused n → text ≡ refusedLine n
-  pub apart : searching b 54 ≡ verdict false → text ≡ apartLine
-  pub clash : searching b 54 ≡ verdict true → Reported b text
+-- What the search program prints for the sheet b: the report of the first solution, or `apart`.
+abbrev pub searchText : Sheet → List ℕ
+searchText s = pick (solvable s) (report s (firstSolution s)) apartLine
 
--- "The clause program, sheet on standard input, prints" the clause file: what is printed for the answer whose values are the file's bytes.
-abbrev pub clausesText : Answer → List ℕ
-clausesText (refused n) = refusedLine n
-clausesText (finished values) = values
+unfoldable pub searchPrinted : List ℕ → List ℕ
+searchPrinted b = answerText (ofSheet (read b) (λ s. finished (searchText s)))
 
+-- "The clause program, sheet on standard input, prints" the clause file.
 unfoldable pub clausesPrinted : List ℕ → List ℕ
-clausesPrinted b = clausesText (ofSheet (read b) (λ s. finished (file s)))
+clausesPrinted b = answerText (ofSheet (read b) (λ s. finished (file s)))

@@ -2,8 +2,8 @@
 // untouched on a refusal. Each is one call of a function below it with the same contract, which does the work.
 ghost use mathlib.Core.Path.{_≡_};
 ghost use lib.ListN.{length};
-ghost use Rattle.calls.specs.Calls.{reading, checking, spelling, counting, writing, replying};
-ghost use Rattle.c_answer.specs.Returned.{returned, lentAfter, returnedNumber, Handed, HandedOver, Sought};
+ghost use Rattle.calls.specs.Calls.{reading, checking, spelling, searching, counting, writing, replying};
+ghost use Rattle.c_answer.specs.Returned.{returned, lentAfter, returnedNumber, Handed, HandedOver, Decided};
 
 // Reads a sheet of any bytes. Returns 0, with its four counts (letters, fields, pairs, rules) in `counts`; or minus
 // document 01's number of the first refusal, with `counts` as it was.
@@ -37,11 +37,11 @@ pub extern "C" fn tpl_spell(
     c_sheet::spell(sheet, pair, side, filling, text)
 }
 
-// Searches a sheet for a clash. Returns 1 for a clash, with a filling that clashes in the first 9 bytes of `filling` for each field and later
+// Searches a sheet for a clash. Returns 1 for a clash, with the first filling that clashes in the first 9 bytes of `filling` for each field and later
 // bytes as they were; 0 where the sheet is apart, or minus document 01's number of the first refusal, with all bytes as they were.
 #[no_mangle]
 pub extern "C" fn tpl_search(sheet: &[u8], filling: &mut [u8]) -> i64
-    ensures { λ r. ⌜ Sought (now (sheet .entry)) (now (filling .entry)) r (now (filling .exit)) ⌝ }
+    ensures { λ r. ⌜ Decided (searching (now (sheet .entry)) (length (now (filling .entry)))) (now (filling .entry)) r (now (filling .exit)) ⌝ }
 {
     c_search::search(sheet, filling)
 }

@@ -20,7 +20,9 @@ pub mod Words
 pub mod Values
 pub mod Solvable
 pub mod Order
+pub mod ByFields
 pub mod First
+pub mod Unused
 pub mod Shown
 pub mod Sums
 pub mod Templates

@@ -3,7 +3,7 @@
 use mathlib.Core.Path.{_≡_, refl, sym, ap, ap₂, subst, _∙_}
 use mathlib.Core.Bool.{true, not, _&&_}
 use mathlib.Core.List.{List, [], _∷_, _++_, map}
-use mathlib.Core.Logic.{_⊎_, inl, inr, ⊎-elim}
+use mathlib.Core.Logic.{_⊎_, inl, inr}
 use Prim.Native.Nat.{ℕ, zero, suc, _+_, _<_, _≤_}
 use native.Mathlib.Omega.{arith}
 use lib.Dec.{ltb, eqb}
@@ -12,7 +12,7 @@ use lib.Seq.{take-at, drop-at}
 use borrow.Author.Tests.{ltb-true, ltb-false, lt-ltb, le-ltb, eqb-true, eq-eqb}
 use Rattle.model.specs.Lists.{each, all}
 use Rattle.model.specs.Sheet.{Sheet}
-use Rattle.model.specs.Word.{Substitution, text, Legal}
+use Rattle.model.specs.Word.{Substitution, Legal}
 use Rattle.model.specs.Order.{Lex, totalLength, fieldLengths, fieldLetters, ranks, Earlier, lex, earlier}
 use Rattle.model.proofs.Lists.{never, by-test, and-split, and-join, or-cases, or-left, or-right}
 
@@ -137,14 +137,6 @@ lex-place (x ∷ xs) (y ∷ ys) (inr h) = let r = lex-place xs ys (h .1) in reco
     same-next r zero k = h .0
     same-next r (suc i) k = r .same i (omega arith)
 
--- a list that is nowhere above another does not come after it
-not-above : (xs ys : List ℕ) → ((i : ℕ) → i < length xs → getD xs i 0 ≤ getD ys i 0) → Lex ys xs → ⊥
-unfolding Lex
-not-above xs [] h k = k
-not-above [] (y ∷ ys) h k = k
-not-above (x ∷ xs) (y ∷ ys) h (inl k) = let a = h 0 (omega arith) in omega arith
-not-above (x ∷ xs) (y ∷ ys) h (inr k) = not-above xs ys (λ i l. h (suc i) (omega arith)) (k .1)
-
 -- The order of substitutions, in the three steps of the sentence: the least total field length; then the shorter field 0, field 1 and so on; then the
 -- lower letter numbers.
 abbrev pub Steps : Substitution → Substitution → Type 0
@@ -173,15 +165,6 @@ letters-total : (g : Substitution) → length (fieldLetters g) ≡ totalLength g
 unfolding fieldLetters each totalLength
 letters-total [] = refl
 letters-total (t ∷ g) = length-append t (each g (λ t. t)) ∙ ap (λ n. length t + n) (letters-total g)
-
--- of two substitutions with the same lengths: one that has a higher letter nowhere does not come after the other
-pub no-lower-letters : (g h : Substitution) → fieldLengths g ≡ fieldLengths h → ((f c : ℕ) → getD (text h f) c 0 ≤ getD (text g f) c 0) → Lex (fieldLetters g) (fieldLetters h) → ⊥
-unfolding fieldLetters each Lex
-no-lower-letters [] h n low k = k
-no-lower-letters (t ∷ g) [] n low k = omega (arith, ap length n)
-no-lower-letters (t ∷ g) (u ∷ h) n low k =
-    ⊎-elim (not-above u t (λ i l. low 0 i)) (λ q. no-lower-letters g h (ap (drop 1) n) (λ f c. low (suc f) c) (q .1))
-    (lex-parts t u (fieldLetters g) (fieldLetters h) (ap (λ (xs : List ℕ). getD xs 0 0) n) k)
 
 -- lengths and letters tell a substitution
 same-parts : (g h : Substitution) → fieldLengths g ≡ fieldLengths h → fieldLetters g ≡ fieldLetters h → g ≡ h

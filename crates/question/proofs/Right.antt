@@ -6,7 +6,7 @@ use mathlib.Core.List.{List, [], map}
 use mathlib.Core.Logic.{⊎-elim}
 use Prim.Native.Nat.{ℕ, _+_, _*_, _<_, _≤_}
 use native.Mathlib.Omega.{arith}
-use lib.ListN.{length, getD, List·getD-map, List·getD-eq-default}
+use lib.ListN.{length, getD, List·getD-eq-default}
 use borrow.Author.Tests.{eq-eqb}
 use Rattle.model.specs.Lists.{All, all}
 use Rattle.model.specs.Sheet.{Sheet, limit, sheetOf}
@@ -15,8 +15,8 @@ use Rattle.model.specs.Range.{EquationIn, Admitted}
 use Rattle.model.specs.Word.{Substitution, text, Legal, spell, EquationHolds, ConstraintHolds, constraintHolds}
 use Rattle.model.proofs.Lists.{never, and-split, and-join, weaken, all-out, all-in}
 use Rattle.model.proofs.Words.{same-word-equal, constraint-out, constraint-in}
-use Rattle.model.specs.Order.{fieldLengths, Earlier}
-use Rattle.model.proofs.Order.{no-lower-letters}
+use Rattle.model.specs.Order.{Earlier}
+use Rattle.model.proofs.ByFields.{SameLengths, earlier-by-fields}
 use Rattle.formula.proofs.Small.{fields-few}
 use Rattle.fields.specs.declared.Field.{Field}
 use Rattle.fields.specs.Memory.{meaning, Held}
@@ -159,7 +159,7 @@ module _ (b : List ℕ) (ok : Admitted b) (a : Ask) (asking : Asking (sheetOf b)
     sized : length g ≡ length found
     sized = h .is-legal .one-each ∙ sym (held .legal .one-each)
 
-    letter-low : fieldLengths g ≡ fieldLengths found → (i c : ℕ) → getD (text found i) c 0 ≤ getD (text g i) c 0
+    letter-low : SameLengths g found → (i c : ℕ) → getD (text found i) c 0 ≤ getD (text g i) c 0
     letter-low e i c =
         by-lt c (length (text found i))
         (λ m.
@@ -167,7 +167,7 @@ module _ (b : List ℕ) (ok : Admitted b) (a : Ask) (asking : Asking (sheetOf b)
         let past : length found ≤ i = let z = held .legal .one-each in omega arith in
         let none : length (text found i) ≡ 0 = ap length (List·getD-eq-default found [] past) in
         absurd (omega arith)) in
-        let same : length (text g i) ≡ length (text found i) = sym (List·getD-map length g i []) ∙ ap (λ (xs : List ℕ). getD xs i 0) e ∙ List·getD-map length found i [] in
+        let same = e i in
         let means = memory-means b ok g (h .is-legal) in
         let mine = letter-value b (r .substitution) held i c inside m in
         let its : getD (text g i) c 0 ≡ valueOf (memory g h) (8 + 8 * i + c) = rw means at (letter-value b (memory g h) (memory-held b ok g (h .is-legal)) i c inside (rw means (omega arith))) in
@@ -179,8 +179,8 @@ module _ (b : List ℕ) (ok : Admitted b) (a : Ask) (asking : Asking (sheetOf b)
     none-earlier k =
         ⊎-elim
         (λ sooner. never (sym (f .hit t .first (lengthsOf g) (h .within) (sooner-same (lengthsOf g) (lengthsOf found) (f .hit t .vector) lengths sooner)) ∙ answer-tries g h))
-        (λ lower. no-lower-letters g found (lower .0) (letter-low (lower .0)) (lower .1))
-        (earlier-vectors g found (let n = h .is-legal .one-each in let six = fields-few s (ok .1) in omega arith) sized k)
+        (λ (e, k). let low = letter-low e (k .field) (k .place) in omega (arith, k .lower))
+        (earlier-vectors g found (let n = h .is-legal .one-each in let six = fields-few s (ok .1) in omega arith) sized (earlier-by-fields s g found (h .is-legal) (held .legal) .0 k))
 
   pub first-finds : (first : Bool) (r : Found) → First (tryOf es rows count) (Within (a .lo) (a .hi)) (Order first) r → Finds b a first r
   first-finds first r f = record {

@@ -1,14 +1,15 @@
--- The order of substitutions, and the order of their length vectors: an earlier one has a sooner vector, or the same one and lower letters. Assumes nothing.
-use mathlib.Core.Path.{_≡_, refl, sym, ap, ap₂, _∙_}
+-- The order of substitutions, and the order of their length vectors: an earlier one has a sooner vector, or the same one and a lower letter. Assumes nothing.
+use mathlib.Core.Path.{_≡_, refl, sym, ap, _∙_}
 use mathlib.Core.List.{List, [], _∷_}
 use mathlib.Core.Logic.{_⊎_, inl, inr}
 use Prim.Native.Nat.{ℕ, zero, suc, _+_, _<_, _≤_}
 use native.Mathlib.Omega.{arith}
-use lib.ListN.{length, length-map, getD, List·getD-map}
+use lib.ListN.{length, List·getD-eq-default}
 use Rattle.model.specs.Lists.{from, total}
 use Rattle.model.specs.Word.{Substitution, text}
-use Rattle.model.specs.Order.{Lex, totalLength, fieldLengths, fieldLetters, Earlier}
-use Rattle.model.proofs.Order.{lex-place, earlier-steps}
+use Rattle.model.specs.Order.{totalLength}
+use Rattle.model.proofs.ByFields.{Shorter, Lower, SameLengths, ByFields}
+use Rattle.unification.proofs.Laws.{by-lt}
 use Rattle.inequalities.specs.Asked.{lengthsOf}
 use Rattle.inequalities.proofs.Asked.{lengths-at}
 use Rattle.bounds.specs.Bounds.{sumOf}
@@ -33,37 +34,28 @@ sum-total : (g : Substitution) → length g ≤ 6 → sumOf (lengthsOf g) ≡ to
 unfolding sumOf total lengthsOf from
 sum-total g h = total-lengths g 6 h
 
--- the length of a field
-length-at : (g : Substitution) (f : ℕ) → f < 6 → getD (lengthsOf g) f 0 ≡ getD (fieldLengths g) f 0
-length-at g f h = lengths-at g f h ∙ sym (List·getD-map length g f [])
+-- texts of the same lengths
+pub same-vectors : (g h : Substitution) → SameLengths g h → Same (lengthsOf g) (lengthsOf h)
+same-vectors g h e f k = lengths-at g f k ∙ e f ∙ sym (lengths-at h f k)
 
 module _ (g h : Substitution) (few : length g ≤ 6) (sized : length g ≡ length h) where
-  before : Lex (fieldLengths g) (fieldLengths h) → Before (lengthsOf g) (lengthsOf h)
+  before : Shorter g h → Before (lengthsOf g) (lengthsOf h)
   before k =
-      let r = lex-place (fieldLengths g) (fieldLengths h) k in
-      let i : r .at < 6 = omega (arith, r .inside, length-map g length) in
+      let inside : k .field < 6 = by-lt (k .field) (length h) (λ l. omega arith) (λ l.
+      let none : length (text h (k .field)) ≡ 0 = ap length (List·getD-eq-default h [] l) in
+      absurd (omega (arith, k .shorter))) in
       record {
-        at = r .at;
-        inside = i;
-        same = λ f l. length-at g f (omega arith) ∙ r .same f l ∙ sym (length-at h f (omega arith));
-        less = let a = length-at g (r .at) i in let b = length-at h (r .at) i in omega (arith, r .less);
+        at = k .field;
+        inside = inside;
+        same = λ f l. lengths-at g f (omega arith) ∙ k .same f l ∙ sym (lengths-at h f (omega arith));
+        less = let a = lengths-at g (k .field) inside in let b = lengths-at h (k .field) inside in omega (arith, k .shorter);
       }
 
   -- the vectors that an earlier one has
-  pub earlier-vectors : Earlier g h → Sooner (lengthsOf g) (lengthsOf h) ⊎ ((fieldLengths g ≡ fieldLengths h) × Lex (fieldLetters g) (fieldLetters h))
-  earlier-vectors k = by (earlier-steps g h sized k)
-    where
-      sums : (totalLength g ≡ totalLength h) → sumOf (lengthsOf g) ≡ sumOf (lengthsOf h)
-      sums e = sum-total g few ∙ e ∙ sym (sum-total h (omega arith))
-
-      by : (totalLength g < totalLength h) ⊎ ((totalLength g ≡ totalLength h) × (Lex (fieldLengths g) (fieldLengths h) ⊎ ((fieldLengths g ≡ fieldLengths h) × Lex (fieldLetters g) (fieldLetters h))))
-          → Sooner (lengthsOf g) (lengthsOf h) ⊎ ((fieldLengths g ≡ fieldLengths h) × Lex (fieldLetters g) (fieldLetters h))
-      by (inl l) = inl (inl (let a = sum-total g few in let b = sum-total h (omega arith) in omega arith))
-      by (inr (e, inl l)) = inl (inr (sums e, before l))
-      by (inr (e, inr l)) = inr l
-
-pub same-vectors : (g h : Substitution) → fieldLengths g ≡ fieldLengths h → Same (lengthsOf g) (lengthsOf h)
-same-vectors g h e f k = length-at g f k ∙ ap (λ (xs : List ℕ). getD xs f 0) e ∙ sym (length-at h f k)
+  pub earlier-vectors : ByFields g h → Sooner (lengthsOf g) (lengthsOf h) ⊎ (SameLengths g h × Lower g h)
+  earlier-vectors (inl l) = inl (inl (let a = sum-total g few in let b = sum-total h (omega arith) in omega arith))
+  earlier-vectors (inr (e, inl l)) = inl (inr (sum-total g few ∙ e ∙ sym (sum-total h (omega arith)), before l))
+  earlier-vectors (inr (e, inr l)) = inr l
 
 -- what comes sooner than a vector comes sooner than one of the same six lengths
 pub sooner-same : (m a b : List ℕ) → Same a b → Sooner m a → Sooner m b

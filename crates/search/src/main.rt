@@ -1,4 +1,4 @@
-// Searches the sheet on standard input and prints the report of a clash, or `apart`, or only `refused`, a space, document 01's number of the
+// Searches the sheet on standard input and prints the report of the first clash, or `apart`, or only `refused`, a space, document 01's number of the
 // refusal and a line end.
 use automaton::Verdict;
 use fields::FIELD_BYTES;
@@ -9,8 +9,8 @@ use report::MOST_REPORT;
 use sheet::ENOUGH;
 ghost use Prim.Native.Nat.{_≤_};
 ghost use lib.ListN.{length};
-ghost use Rattle.calls.specs.Report.{mostReport};
-ghost use Rattle.search.specs.Printed.{Prints};
+ghost use Rattle.model.specs.Lists.{Puts};
+ghost use Rattle.calls.specs.Report.{mostReport, searchPrinted};
 
 fn main() {
     let mut buf = [0u8; ENOUGH];
@@ -28,7 +28,7 @@ fn show(sheet: &[u8]) {
 // What is printed for a sheet, at the front of a buffer. Returns its length; later bytes are as they were.
 fn answer(sheet: &[u8], out: &mut [u8]) -> usize
     requires { ⌜ mostReport ≤ length (now out) ⌝ }
-    ensures { λ r. ⌜ Prints (now (sheet .entry)) (now (out .entry)) (now (out .exit)) r ⌝ }
+    ensures { λ r. ⌜ Puts (now (out .entry)) 0 (searchPrinted (now (sheet .entry))) (now (out .exit)) r ⌝ }
 {
     let mut filling = [0u8; MOST_BYTES];
     match automaton::search(sheet, &mut filling) {

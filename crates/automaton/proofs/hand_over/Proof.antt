@@ -1,5 +1,5 @@
--- `automaton::hand_over` meets its contract: what is found solves the sheet, so that it passes the check; and where nothing is found nothing
--- solves it. Assumes nothing.
+-- `automaton::hand_over` meets its contract: what is found solves the sheet, so that it passes the check, and it is the first solution; where nothing
+-- is found nothing solves it. Assumes nothing.
 use mathlib.Core.Path.{sym, ap, _∙_}
 use mathlib.Core.List.{_++_}
 use Prim.Native.Nat.{_*_}
@@ -70,7 +70,8 @@ returns-3 c =
     let buf = s .args .buf .now in
     let g = found .before .before .solve .result .substitution in
     let known = found .before .before .before .before .shared-slice-known in
-    search-clash b buf (at-store .store .last .0) (lent-bytes b (known .given)) (s .pre .0 .0) (s .pre .1) (meaning b g) (found-solves found)
+    search-clash b buf (s .pre .0 .0) (s .pre .1) (lent-bytes b (known .given)) (at-store .store .last .0) (meaning b g) (found-solves found)
+    (found .before .before .solve .ensures .first (not-false _ (found .if1 .left)))
     (at-store .store .ensures ∙ ap (λ k. encodeFilling (take k (textsOf g)) ++ drop (9 * k) buf) (at-fields .fields .ensures))
 
 pub hand-over-spec : {M : Type 1} → statement M

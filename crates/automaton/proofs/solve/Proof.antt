@@ -1,6 +1,6 @@
 -- `automaton::solve` meets its contract: where letters tell that nothing solves the sheet there is no solution, and else the answers to the whole question
--- are the solutions. Assumes nothing.
-use mathlib.Core.Path.{sym, _∙_}
+-- are the solutions, of which it gives the first. Assumes nothing.
+use mathlib.Core.Path.{refl, sym, _∙_}
 use borrow.Author.Needs.{needs}
 use Rattle.model.proofs.Lists.{never}
 use Rattle.automaton.proofs.Asked.{whole-asks, solves-answers, answers-solve}
@@ -19,6 +19,7 @@ returns c =
     record {
       held = λ t. never (sym e ∙ t);
       solved = λ t. never (sym e ∙ t);
+      first = λ t. never (sym e ∙ t);
       none = λ _. c .before .before .some-lopsided .ensures (c .before .if1 .taken);
     }
 
@@ -38,6 +39,7 @@ returns-2 c =
     record {
       held = c .find .ensures .held;
       solved = λ e. answers-solve b (start .pre) (at .whole .result) (at .whole .ensures) _ (c .find .ensures .answer e);
+      first = λ e g h. c .find .ensures .earliest refl e g (solves-answers b (start .pre) (at .whole .result) (at .whole .ensures) g h);
       none = λ e g h. c .find .ensures .none e g (solves-answers b (start .pre) (at .whole .result) (at .whole .ensures) g h);
     }
 

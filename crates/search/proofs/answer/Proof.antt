@@ -1,17 +1,16 @@
 -- `search::answer` meets its contract: the line of a refusal, `apart`, or the report of the filling that was handed over. Assumes nothing.
-use mathlib.Core.Path.{refl, sym, ap, _∙_}
-use Prim.Native.Nat.{_*_}
+use mathlib.Core.Path.{sym, ap, _∙_}
+use mathlib.Core.Bool.{true}
+use Prim.Native.Nat.{ℕ, _*_}
 use native.Mathlib.Omega.{arith}
-use lib.ListN.{take, replicate}
+use lib.ListN.{length, replicate}
 use lib.Seq.{length-take-le}
 use borrow.Author.Needs.{needs}
-use Rattle.model.specs.Sheet.{sheetOf}
+use Rattle.model.specs.Lists.{Bytes}
 use Rattle.model.specs.Range.{Admitted}
-use Rattle.model.specs.Filling.{filling, substitutionIn}
-use Rattle.calls.specs.Calls.{refused, Clashed}
-use Rattle.calls.specs.Report.{refusedLine, apartLine, report}
+use Rattle.calls.specs.Calls.{refused, verdict, searching, Decides}
 use Rattle.model.proofs.Known.{accepted-in-range}
-use Rattle.calls.proofs.Searching.{clash-accepted, clash-taken, prints-refused, prints-apart, prints-clash}
+use Rattle.calls.proofs.Searching.{clash-accepted, clash-checks, prints-refused, prints-apart, prints-clash}
 use Rattle.parts.proofs.Known.{lent-bytes}
 use Rattle.automaton.specs.Answer.{searched}
 use Rattle.search.proofs.answer.Statement.{statement}
@@ -48,14 +47,18 @@ enum-told-2 c = search needs
 abbrev start : tie.After-enum-told2 → tie.Start
 start c = c .before .before .before .before .before .before .before
 
-clash : (c : tie.After-enum-told2) → Clashed (start c .args .sheet .now) (replicate 54 0) (c .before .before .before .search .last .1 .0)
-clash c = c .before .before .before .search .ensures .clash (ap searched (c .enum-told2 .given .1))
+lent : (c : tie.After-enum-told2) → Bytes (start c .args .sheet .now)
+lent c = lent-bytes (start c .args .sheet .now) (c .before .before .before .before .before .before .shared-slice-known .given)
+
+clash : (c : tie.After-enum-told2)
+    → Decides (searching (start c .args .sheet .now) (length {A = ℕ} (replicate 54 0))) (replicate 54 0) (verdict true) (c .before .before .before .search .last .1 .0)
+clash c = let call = c .before .before .before .search .ensures in (sym (ap searched (c .enum-told2 .given .1)) ∙ call .0, call .1)
 
 known : (c : tie.After-enum-told2) → Admitted (start c .args .sheet .now)
 known c =
     let b = start c .args .sheet .now in
     let ok = clash-accepted b (replicate 54 0) _ (clash c) in
-    (ok, accepted-in-range b (lent-bytes b (c .before .before .before .before .before .before .shared-slice-known .given)) ok)
+    (ok, accepted-in-range b (lent c) ok)
 
 fields-requires : tie.Need-fields-requires
 fields-requires c κs = known c
@@ -76,7 +79,7 @@ write-requires c κs =
     let at-fields = c .before .before in
     let at-told = at-fields .before in
     let b = start at-told .args .sheet .now in
-    (rw (at-fields .fields .ensures) (clash-taken b (replicate 54 0) _ (clash at-told)), omega (arith, start at-told .pre))
+    (rw (at-fields .fields .ensures) (clash-checks b (replicate 54 0) _ (clash at-told) (lent at-told)), omega (arith, start at-told .pre))
 
 same-length : tie.Need-same-length
 same-length c = search needs
@@ -87,12 +90,8 @@ returns c =
     let at-refusal = at-number .before .before .before in
     let at-search = at-refusal .before .before .before in
     let b = at-search .before .before .before .before .args .sheet .now in
-    let told = sym (at-search .search .ensures .answers) ∙ ap searched (at-refusal .refusal .given .1) in
-    record {
-      text = refusedLine (at-number .number .result);
-      admitted = prints-refused b (told ∙ ap refused (sym (at-number .number .ensures)));
-      put = c .before .before .refusal2 .ensures .0;
-    }
+    let told = ap refused (at-number .number .ensures) ∙ sym (ap searched (at-refusal .refusal .given .1)) ∙ at-search .search .ensures .0 in
+    rw (prints-refused b told) (c .before .before .refusal2 .ensures .0)
 
 same-length-2 : tie.Need-same-length-2
 same-length-2 c = search needs
@@ -102,11 +101,7 @@ returns-2 c =
     let at-told = c .before .before .before .before .before in
     let at-search = at-told .before .before .before in
     let b = at-search .before .before .before .before .args .sheet .now in
-    record {
-      text = apartLine;
-      admitted = prints-apart b (sym (at-search .search .ensures .answers) ∙ ap searched (at-told .enum-told .given .1));
-      put = c .before .before .put .ensures;
-    }
+    rw (prints-apart b (sym (ap searched (at-told .enum-told .given .1)) ∙ at-search .search .ensures .0)) (c .before .before .put .ensures)
 
 same-length-3 : tie.Need-same-length-3
 same-length-3 c = search needs
@@ -116,16 +111,9 @@ returns-3 c =
     let at-write = c .before .before in
     let at-fields = at-write .before .before .before in
     let at-told = at-fields .before in
-    let at-search = at-told .before .before .before in
     let b = start at-told .args .sheet .now in
-    let m = take (9 * at-fields .fields .result) (at-search .search .last .1 .0) in
-    let text = report (sheetOf b) (substitutionIn (filling (sheetOf b) m)) in
-    record {
-      text = text;
-      admitted = prints-clash b text (sym (at-search .search .ensures .answers) ∙ ap searched (at-told .enum-told2 .given .1))
-          (record { bytes = m; clashes = rw (at-fields .fields .ensures) (clash-taken b (replicate 54 0) _ (clash at-told)); is-report = refl });
-      put = at-write .write .ensures;
-    }
+    let n = at-fields .fields .ensures in
+    rw (prints-clash b (lent at-told) (replicate 54 0) _ (clash at-told), sym n) (at-write .write .ensures)
 
 pub answer-spec : {M : Type 1} → statement M
 answer-spec =

@@ -14,12 +14,12 @@ answer-requires c κs = search needs
 array-share-prefix-out : tie.Need-array-share-prefix-out
 array-share-prefix-out c =
     let at-answer = c .before .answer in
-    front-fits (replicate 236 0) (at-answer .ensures .text) (at-answer .last .1 .0) (at-answer .result) (at-answer .ensures .put)
+    front-fits (replicate 236 0) _ (at-answer .last .1 .0) (at-answer .result) (at-answer .ensures)
 
 slice-aggregate-write-all : tie.Need-slice-aggregate-write-all
 slice-aggregate-write-all c =
     let at-answer = c .before .before .answer in
-    front-length (replicate 236 0) (at-answer .ensures .text) (at-answer .last .1 .0) (at-answer .result) (at-answer .ensures .put)
+    front-length (replicate 236 0) _ (at-answer .last .1 .0) (at-answer .result) (at-answer .ensures)
 
 write-all-requires : tie.Need-write-all-requires
 write-all-requires c κs = search needs
