@@ -2,6 +2,7 @@
 use lib.ListN.{replicate}
 use borrow.Author.Needs.{needs}
 use Rattle.model.proofs.Seams.{front-fits, front-length}
+use Rattle.calls.specs.Report.{searchPrinted}
 use Rattle.search.proofs.show.Statement.{statement}
 use Rattle.search.proofs.show.Tie as tie
 
@@ -13,13 +14,15 @@ answer-requires c κs = search needs
 
 array-share-prefix-out : tie.Need-array-share-prefix-out
 array-share-prefix-out c =
+    let at-start = c .before .before .before .before in
     let at-answer = c .before .answer in
-    front-fits (replicate 236 0) _ (at-answer .last .1 .0) (at-answer .result) (at-answer .ensures)
+    front-fits (replicate 236 0) (searchPrinted (at-start .args .sheet .now)) (at-answer .last .1 .0) (at-answer .result) (at-answer .ensures)
 
 slice-aggregate-write-all : tie.Need-slice-aggregate-write-all
 slice-aggregate-write-all c =
+    let at-start = c .before .before .before .before .before in
     let at-answer = c .before .before .answer in
-    front-length (replicate 236 0) _ (at-answer .last .1 .0) (at-answer .result) (at-answer .ensures)
+    front-length (replicate 236 0) (searchPrinted (at-start .args .sheet .now)) (at-answer .last .1 .0) (at-answer .result) (at-answer .ensures)
 
 write-all-requires : tie.Need-write-all-requires
 write-all-requires c κs = search needs
