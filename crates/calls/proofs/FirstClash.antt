@@ -1,6 +1,6 @@
 -- Document 02, No. 1 (docs/02-change-requests.md), "The same clash on each laptop", each sentence above the theorems that state it. As the demands
 -- (Demands.antt), they are of bytes and of what the contract of a search says. Assumes nothing.
-use mathlib.Core.Path.{_≡_, refl, sym, ap, _∙_}
+use mathlib.Core.Path.{_≡_, sym, ap, _∙_}
 use mathlib.Core.Logic.{_⊎_, _↔_}
 use mathlib.Core.Bool.{true, false}
 use mathlib.Core.List.{List, _++_}

@@ -7,7 +7,7 @@ use Prim.Native.Nat.{ℕ, _*_, _<_, _≤_}
 use native.Mathlib.Omega.{arith}
 use lib.Dec.{leb}
 use lib.ListN.{length, take, drop}
-use lib.Seq.{take-at, drop-at}
+use lib.Seq.{take-at}
 use borrow.Author.Tests.{le-leb, lt-leb, leb-true}
 use Rattle.model.specs.Lists.{Bytes, pick}
 use Rattle.model.specs.Sheet as sheet
@@ -18,7 +18,6 @@ use Rattle.model.specs.Order.{Earlier, firstSolution}
 use Rattle.model.specs.Filling.{filling, encodeFilling, substitutionIn}
 use Rattle.calls.specs.Calls.{Answer, refused, finished, ofSheet, reading, verdict, checking, written, searchValues, searchingOf, searching, decision, handed, Decides}
 use Rattle.calls.specs.Report.{report, refusedLine, apartLine, answerText, searchText, searchPrinted}
-use Rattle.model.proofs.Lists.{never}
 use Rattle.model.proofs.Reading.{read-prefix}
 use Rattle.model.proofs.Known.{accepted-in-range, accepted-counts}
 use Rattle.model.proofs.Fillings.{legal-sized, filling-reads}

@@ -1,6 +1,6 @@
 -- The order of substitutions, said by fields and places: of two legal ones the one with the least total length comes first; then the one whose text is
 -- shorter in the first field in which the lengths differ; then the one with the lower letter at the first place at which the texts differ. Assumes nothing.
-use mathlib.Core.Path.{_≡_, refl, sym, ap, _∙_}
+use mathlib.Core.Path.{_≡_, sym, ap, _∙_}
 use mathlib.Core.List.{List, [], _∷_}
 use mathlib.Core.Logic.{_⊎_, inl, inr, _↔_}
 use Prim.Native.Nat.{ℕ, zero, suc, _<_}
@@ -14,7 +14,7 @@ use Rattle.model.specs.Sheet.{Sheet}
 use Rattle.model.specs.Word.{Substitution, text, Legal}
 use Rattle.model.specs.Order.{Lex, totalLength, fieldLengths, fieldLetters, Earlier}
 use Rattle.model.proofs.Lists.{by-test}
-use Rattle.model.proofs.Order.{LowerAt, lex-place, lex-parts, lex-first, lex-second, Steps, earlier-steps, steps-earlier}
+use Rattle.model.proofs.Order.{lex-place, lex-parts, lex-first, lex-second, Steps, earlier-steps, steps-earlier}
 
 -- "the shorter field 0, field 1 and so on"
 pub record Shorter (g h : Substitution) : Type 0 where

@@ -1,7 +1,7 @@
 -- The first solution of a sheet (document 02, No. 1): where there is a solution it is one, no solution comes before it, and it is the only one of which
 -- that holds. Assumes nothing.
 use mathlib.Core.Path.{_≡_, refl, sym, subst, _∙_}
-use mathlib.Core.Bool.{true, false}
+use mathlib.Core.Bool.{true}
 use mathlib.Core.List.{List, [], _∷_, map}
 use mathlib.Core.Logic.{_⊎_, inl, inr}
 use Prim.Native.Nat.{ℕ}

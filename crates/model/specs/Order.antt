@@ -1,5 +1,6 @@
 -- Document 02, No. 1: "The search is to give the first clash." The order of substitutions, over all fields, used in a template or not; and the first
--- solution of a sheet. `proofs/Order.antt` has the laws of the order, `proofs/First.antt` those of the first solution.
+-- solution of a sheet. `proofs/Order.antt` has the laws of the order, `proofs/ByFields.antt` says it once more by fields and places, and `proofs/First.antt`
+-- has the laws of the first solution.
 use mathlib.Core.Path.{_≡_}
 use mathlib.Core.Bool.{Bool, false, _&&_, _||_}
 use mathlib.Core.List.{List, [], _∷_, _++_, map}
