@@ -1,4 +1,4 @@
-// Searching a sheet for a solution: letters are counted first, which can show at once that there is none; then the whole sheet is one question, and what
+// Searching a sheet for its first solution: letters are counted first, which can show at once that there is none; then the whole sheet is one question, and what
 // is found is handed over once it has passed the check.
 use fields::FIELD_BYTES;
 use fields::Lengths;

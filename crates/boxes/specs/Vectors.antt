@@ -33,7 +33,7 @@ pub record Before (a b : List ℕ) : Type 0 where
 abbrev pub Sooner : List ℕ → List ℕ → Type 0
 Sooner a b = (sumOf a < sumOf b) ⊎ ((sumOf a ≡ sumOf b) × Before a b)
 
--- by totals, if the shortest is asked for; else none comes before another
+-- sooner, if the first is asked for; else none comes before another
 abbrev pub Order : Bool → List ℕ → List ℕ → Type 0
 Order true a b = Sooner a b
 Order false a b = ⊥

@@ -39,6 +39,12 @@ same-decision (finished (v ∷ others)) = refl
 pub decision-number : (a : Answer) {answer : Answer} → answer ≡ decision a → returnedNumber answer ≡ returnedNumber a
 decision-number a e = ap returnedNumber e ∙ same-decision a
 
+-- and a number from 1 on is what it decides
+pub number-decided : (a : Answer) (v : ℕ) → 1 ≤ v → ((n : ℕ) → a ≡ refused n → 1 ≤ n) → returnedNumber a ≡ pos v → decision a ≡ finished (v ∷ [])
+number-decided (refused n) v h from-one e = negative n (from-one n refl) e
+number-decided (finished []) v h from-one e = let z = pos-equal e in absurd (omega arith)
+number-decided (finished (n ∷ others)) v h from-one e = ap (λ k. finished (k ∷ [])) (pos-equal e)
+
 -- a call that answers no number returns the same
 pub same-returned : (a : Answer) → returned (unnumbered a) ≡ returned a
 same-returned (refused n) = refl

@@ -3,7 +3,7 @@ use mathlib.Core.Path.{_≡_}
 use mathlib.Core.List.{List, [], _∷_}
 use Prim.Native.Nat.{ℕ}
 use lib.IntN.{ℤ, pos, negℤ}
-use Rattle.calls.specs.Calls.{Answer, refused, finished, sized, written, handed}
+use Rattle.calls.specs.Calls.{Answer, refused, finished, sized, written, following}
 
 -- minus the refusal's number; 0 for a call whose values go to a lent array
 abbrev pub returned : Answer → ℤ
@@ -31,4 +31,4 @@ HandedOver a before r after = (r ≡ returned a) × (after ≡ written a before)
 
 -- a call that returns the first of the answer's values, and hands the others over in a lent buffer
 abbrev pub Decided : Answer → List ℕ → ℤ → List ℕ → Type 0
-Decided a before r after = (r ≡ returnedNumber a) × (after ≡ written (handed a) before)
+Decided a before r after = (r ≡ returnedNumber a) × (after ≡ written (following a) before)

@@ -1,7 +1,7 @@
--- What the number tells that `tpl_search` returns: with a long enough buffer it is 1 exactly when some filling clashes, with the first that does in the
--- buffer, and else 0. Assumes nothing.
+-- What the number tells that `tpl_search` returns: 1 comes with the first filling that clashes in the buffer; with a long enough buffer it is 1 exactly when
+-- some filling clashes, and else 0. Assumes nothing.
 use mathlib.Core.Path.{_≡_, refl, sym, ap, _∙_}
-use mathlib.Core.Bool.{Bool, true, false}
+use mathlib.Core.Bool.{true}
 use mathlib.Core.List.{List}
 use Prim.Native.Nat.{ℕ, _*_, _≤_}
 use native.Mathlib.Omega.{arith}
@@ -12,17 +12,11 @@ use Rattle.calls.specs.Calls.{verdict, searching, decision, Decides}
 use Rattle.model.specs.Lists.{Bytes}
 use Rattle.model.specs.Sheet.{Accepted, sheetOf}
 use Rattle.model.specs.Word.{Substitution, Solves}
-use Rattle.model.specs.Solvable.{solvable}
-use Rattle.calls.proofs.Searching.{searching-verdict}
+use Rattle.calls.proofs.Searching.{searching-refused}
 use Rattle.calls.proofs.Demands.{search-answers-clash-exactly, search-else-answers-apart}
 use Rattle.calls.proofs.FirstClash.{HandsOverTheFirst, search-gives-the-first-clash}
 use Rattle.c_answer.specs.Returned.{returnedNumber, Decided}
-use Rattle.c_answer.proofs.Told.{pos-equal, same-decision}
-
--- No verdict but clash is told as 1.
-told-clash : (t : Bool) → returnedNumber (verdict t) ≡ pos 1 → verdict t ≡ verdict true
-told-clash true q = refl
-told-clash false q = let z : _≡_ {A = ℕ} 0 1 = pos-equal q in absurd (omega arith)
+use Rattle.c_answer.proofs.Told.{same-decision, number-decided}
 
 module _ (b before after : List ℕ) (r : ℤ) (call : Decided (searching b (length before)) before r after) where
   -- what `tpl_search` does is what `Decides` says
@@ -32,21 +26,19 @@ module _ (b before after : List ℕ) (r : ℤ) (call : Decided (searching b (len
   pub returns-decision : r ≡ returnedNumber (decision (searching b (length before)))
   returns-decision = call .0 ∙ sym (same-decision (searching b (length before)))
 
-  -- With a long enough buffer 1 is returned exactly when some filling clashes, with the first that does in the buffer; and where none does, 0, with all
-  -- bytes as they were.
-  module _ (y : Bytes b) (ok : Accepted b) (enough : 9 * length (sheetOf b .limits) ≤ length before) where
-    one-clash : r ≡ pos 1 → decision (searching b (length before)) ≡ verdict true
-    one-clash e =
-        let v = searching-verdict b (length before) ok enough in
-        v ∙ told-clash (solvable (sheetOf b)) (sym (ap returnedNumber v) ∙ sym returns-decision ∙ e)
+  -- 1 comes with the first filling that clashes in the buffer.
+  one-clash : r ≡ pos 1 → decision (searching b (length before)) ≡ verdict true
+  one-clash e = number-decided (searching b (length before)) 1 (omega arith) (searching-refused b (length before)) (sym (call .0) ∙ e)
 
+  pub one-handed : Bytes b → r ≡ pos 1 → HandsOverTheFirst b before after
+  one-handed y e = search-gives-the-first-clash b y before after _ decided-decides (one-clash e)
+
+  -- With a long enough buffer 1 is returned exactly when some filling clashes; and where none does, 0, with all bytes as they were.
+  module _ (y : Bytes b) (ok : Accepted b) (enough : 9 * length (sheetOf b .limits) ≤ length before) where
     pub one-exactly : (r ≡ pos 1) ↔ ((g : Substitution) × Solves (sheetOf b) g)
     one-exactly =
         let exactly = search-answers-clash-exactly b y before after _ decided-decides ok enough in
         ((λ e. exactly .0 (one-clash e)), λ h. returns-decision ∙ ap returnedNumber (exactly .1 h))
-
-    pub one-handed : r ≡ pos 1 → HandsOverTheFirst b before after
-    one-handed e = search-gives-the-first-clash b y before after _ decided-decides (one-clash e)
 
     pub zero-apart : (((g : Substitution) × Solves (sheetOf b) g) → ⊥) → (r ≡ pos 0) × (after ≡ before)
     zero-apart none =

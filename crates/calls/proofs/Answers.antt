@@ -4,12 +4,12 @@ use mathlib.Core.Path.{_≡_, refl}
 use mathlib.Core.List.{List, [], _∷_, _++_, map}
 use Prim.Native.Nat.{ℕ}
 use Rattle.model.specs.Lists.{startsWith, same, each, from, all, any, keep, total}
-use Rattle.model.specs.Sheet.{row, times, sides, anEquation, aConstraint, walk, width, signed, opening, read, sheetIn}
+use Rattle.model.specs.Sheet.{row, times, sides, anEquation, aConstraint, walk, width, signed, opening, read}
 use Rattle.model.specs.Word.{spell, weight, sameWord, equationHolds, constraintHolds, keeps, solves}
 use Rattle.model.specs.Solvable.{allTexts, substitutions, solvable}
 use Rattle.model.specs.Order.{totalLength, fieldLetters, ranks, lex, earliest, firstSolution}
 use Rattle.model.specs.Filling.{places, aText, texts, filling, encodeFilling}
-use Rattle.calls.specs.Report.{report}
+use Rattle.calls.specs.Report.{report, refusedLine, searchPrinted}
 use Rattle.model.specs.Cells.{cells}
 use Rattle.formula.specs.Clause.{terms, leftOut, literals, least, spread, sums, placeIds, locationIds, equationIds, constraintIds, listed, ids}
 use Rattle.formula.specs.Numbering.{kVariables, sVariables, tVariables, variables, number, clause}
@@ -32,6 +32,10 @@ fieldless = sheet 1 0 1 0 (65 ∷ 1 ∷ 1 ∷ 0 ∷ 0 ∷ [])
 -- X of limit 8 against X, and Y of limit 0; the rules 4 × X at most 32, and -4 × X + 4 × Y at most -32
 abbrev pub ruled : List ℕ
 ruled = sheet 1 2 1 2 (65 ∷ 8 ∷ 0 ∷ 1 ∷ 1 ∷ 128 ∷ 128 ∷ 4 ∷ 0 ∷ 0 ∷ 32 ∷ 252 ∷ 4 ∷ 255 ∷ 224 ∷ [])
+
+-- BA against YX, of limit 2
+abbrev several : List ℕ
+several = sheet 2 2 1 0 (65 ∷ 66 ∷ 2 ∷ 2 ∷ 2 ∷ 2 ∷ 1 ∷ 0 ∷ 129 ∷ 128 ∷ [])
 
 -- a field's nine bytes, from the first three on
 abbrev pub nine : ℕ → ℕ → ℕ → List ℕ
@@ -167,6 +171,8 @@ searches =
     ∷ record { on = asked; room = 18; answer = finished (1 ∷ (empty ++ empty)) }
     -- only a full field and an empty one, and a longer buffer
     ∷ record { on = ruled; room = 54; answer = finished (1 ∷ ((8 ∷ 0 ∷ 0 ∷ 0 ∷ 0 ∷ 0 ∷ 0 ∷ 0 ∷ 0 ∷ []) ++ empty)) }
+    -- BA against YX, with three clashes: X empty and Y=BA before X=A and Y=B, and before X=BA and Y empty
+    ∷ record { on = several; room = 18; answer = finished (1 ∷ (empty ++ nine 2 1 0)) }
     -- no fields: a buffer of none
     ∷ record { on = fieldless; room = 0; answer = finished (1 ∷ []) }
     -- P with limit 0
@@ -182,10 +188,11 @@ pub search-answers : map (λ (c : Search). searching (c .on) (c .room)) searches
 unfolding startsWith row times sides anEquation aConstraint walk width signed opening read each from all any same spell weight sameWord equationHolds constraintHolds keeps solves allTexts substitutions solvable keep totalLength fieldLetters ranks lex earliest firstSolution encodeFilling searchingOf searching
 search-answers = refl
 
--- What the programs print for document 01's sheet P and X=A: "`clash`, `field 0=A`, `pair 0=A`".
-pub report-P : report (sheetIn (read P)) ((0 ∷ []) ∷ []) ≡
-    (99 ∷ 108 ∷ 97 ∷ 115 ∷ 104 ∷ 10 ∷ [])
-    ++ (102 ∷ 105 ∷ 101 ∷ 108 ∷ 100 ∷ 32 ∷ 48 ∷ 61 ∷ 65 ∷ 10 ∷ [])
-    ++ (112 ∷ 97 ∷ 105 ∷ 114 ∷ 32 ∷ 48 ∷ 61 ∷ 65 ∷ 10 ∷ [])
-unfolding startsWith row times sides anEquation aConstraint walk width signed opening read each from spell report
-report-P = refl
+-- What the search program prints, for document 01's sheet P "`clash`, `field 0=A`, `pair 0=A`"; with limit 0, and with a byte left over.
+pub search-prints : map searchPrinted (P ∷ sheet 1 1 1 0 (65 ∷ 0 ∷ 1 ∷ 1 ∷ 128 ∷ 0 ∷ []) ∷ (P ++ (0 ∷ [])) ∷ []) ≡
+    ((99 ∷ 108 ∷ 97 ∷ 115 ∷ 104 ∷ 10 ∷ []) ++ ((102 ∷ 105 ∷ 101 ∷ 108 ∷ 100 ∷ 32 ∷ 48 ∷ 61 ∷ 65 ∷ 10 ∷ []) ++ (112 ∷ 97 ∷ 105 ∷ 114 ∷ 32 ∷ 48 ∷ 61 ∷ 65 ∷ 10 ∷ [])))
+    ∷ (97 ∷ 112 ∷ 97 ∷ 114 ∷ 116 ∷ 10 ∷ [])
+    ∷ (114 ∷ 101 ∷ 102 ∷ 117 ∷ 115 ∷ 101 ∷ 100 ∷ 32 ∷ 57 ∷ 10 ∷ [])
+    ∷ []
+unfolding startsWith row times sides anEquation aConstraint walk width signed opening read each from all any same spell weight sameWord equationHolds constraintHolds keeps solves allTexts substitutions solvable keep totalLength fieldLetters ranks lex earliest firstSolution digits decimal refusedLine report searchPrinted
+search-prints = refl

@@ -72,7 +72,7 @@ written-unchanged : (a : Answer) {before after : List ℕ} {answer : Answer} →
 written-unchanged (refused k) w n q = w .1
 written-unchanged (finished vs) w n q = not-finished (sym q ∙ w .0)
 
--- Reading, counting and checking write to nothing that is lent; what the calls for C do with lent arrays is in `Refused.antt` of the crate engine.
+-- Reading, counting and checking write to nothing that is lent; what the calls for C do with lent arrays is in `Refused.antt` of their crates.
 module _ (b : List ℕ) where
   pub reading-gives-the-first-refusal : InOrder (sheetRules b) (reading b)
   reading-gives-the-first-refusal = in-order (reading-ordered b)

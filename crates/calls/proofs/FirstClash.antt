@@ -1,5 +1,5 @@
--- Document 02, No. 1 (docs/02-change-requests.md), "The same clash on each laptop", each sentence above the theorems that state it. As the demands
--- (Demands.antt), they are of bytes and of what the contract of a search says. Assumes nothing.
+-- Document 02, No. 1 (docs/02-change-requests.md), "The same clash on each laptop", each sentence above the theorems that state it. What is said of a search
+-- is, as the demands are (Demands.antt), of bytes and of what its contract says. Assumes nothing.
 use mathlib.Core.Path.{_≡_, sym, ap, _∙_}
 use mathlib.Core.Logic.{_⊎_, _↔_}
 use mathlib.Core.Bool.{true, false}
@@ -17,8 +17,7 @@ use Rattle.model.proofs.Order.{earlier-irreflexive, earlier-transitive, one-is-
 use Rattle.model.proofs.ByFields.{ByFields, earlier-by-fields}
 use Rattle.model.proofs.First.{none-before-first, first-only}
 use Rattle.model.proofs.Unused.{Unasked, unasked-empty}
-use Rattle.calls.proofs.Passed.{verdict-same}
-use Rattle.calls.proofs.Searching.{searching-verdict, clash-solves, clash-handed, clash-taken}
+use Rattle.calls.proofs.Searching.{searching-verdict, verdict-told, clash-solves, clash-handed, clash-taken}
 
 -- "The order is: least total field length; then the shorter field 0, field 1 and so on; then the lower letter numbers, field by field from the left." Of two
 -- fillings of a sheet, over all its fields; and it is an order: none comes before itself, what comes before an earlier one comes before it, and of two that
@@ -48,7 +47,8 @@ pub first-is-one : (s : Sheet) (g h : Substitution) → Solves s g → Solves s 
 first-is-one s g h p q none none′ = first-only s g p none ∙ sym (first-only s h q none′)
 
 -- a field that stands in no template and counts in no rule is empty in it
-pub unasked-field-is-empty : (s : Sheet) (g : Substitution) → Solves s g → (f : ℕ) → Unasked s f → f < length (s .limits) → length (text (firstSolution s) f) ≡ 0
+pub unasked-field-is-empty : (s : Sheet) (g : Substitution) → Solves s g → ((k : Substitution) → Solves s k → Earlier k g → ⊥)
+    → (f : ℕ) → Unasked s f → f < length (s .limits) → length (text g f) ≡ 0
 unasked-field-is-empty = unasked-empty
 
 module _ (b : List ℕ) (y : Bytes b) where
@@ -64,14 +64,21 @@ module _ (b : List ℕ) (y : Bytes b) where
       bytes = clash-handed b before after (told e) y;
     }
 
-    -- "Apart is given for the same sheets as before.": for those that have no clash
-    pub apart-as-before : Accepted b → 9 * length (sheetOf b .limits) ≤ length before → (answer ≡ verdict false) ↔ (solvable (sheetOf b) ≡ false)
-    apart-as-before ok enough =
-        let decides = call .0 ∙ searching-verdict b (length before) ok enough in
-        ((λ e. verdict-same (solvable (sheetOf b)) false (sym decides ∙ e)), λ e. decides ∙ ap verdict e)
+    -- "Apart is given for the same sheets as before.": for those that are accepted and have no clash, with a buffer that is long enough
+    pub apart-as-before : (answer ≡ verdict false) ↔ (Accepted b × (9 * length (sheetOf b .limits) ≤ length before) × (solvable (sheetOf b) ≡ false))
+    apart-as-before = (
+      (λ e. let t = verdict-told b (length before) false (sym e ∙ call .0) in (t .accepted, t .enough, t .decided)),
+      λ h. call .0 ∙ searching-verdict b (length before) (h .0) (h .1) ∙ ap verdict (h .2),
+    )
 
-  -- "The same clash on each laptop.": two searches of one sheet, whatever stood in their buffers
-  pub same-clash-on-each-laptop : (before after : List ℕ) → Decides (searching b (length before)) before (verdict true) after
-      → (before′ after′ : List ℕ) → Decides (searching b (length before′)) before′ (verdict true) after′
-      → take (9 * length (sheetOf b .limits)) after ≡ take (9 * length (sheetOf b .limits)) after′
-  same-clash-on-each-laptop before after call before′ after′ call′ = clash-taken b before after call y ∙ sym (clash-taken b before′ after′ call′ y)
+  -- "The same clash on each laptop.": two searches of one accepted sheet, with buffers that are long enough, whatever stood in them
+  module _ (ok : Accepted b) (before after : List ℕ) (answer : Answer) (call : Decides (searching b (length before)) before answer after) (enough : 9 * length (sheetOf b .limits) ≤ length before)
+      (before′ after′ : List ℕ) (answer′ : Answer) (call′ : Decides (searching b (length before′)) before′ answer′ after′) (enough′ : 9 * length (sheetOf b .limits) ≤ length before′) where
+    pub same-answer-on-each-laptop : answer ≡ answer′
+    same-answer-on-each-laptop =
+        call .0 ∙ searching-verdict b (length before) ok enough ∙ sym (searching-verdict b (length before′) ok enough′) ∙ sym (call′ .0)
+
+    pub same-clash-on-each-laptop : answer ≡ verdict true → take (9 * length (sheetOf b .limits)) after ≡ take (9 * length (sheetOf b .limits)) after′
+    same-clash-on-each-laptop e =
+        clash-taken b before after (told before after answer call e) y
+        ∙ sym (clash-taken b before′ after′ (told before′ after′ answer′ call′ (sym same-answer-on-each-laptop ∙ e)) y)

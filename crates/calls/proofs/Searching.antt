@@ -16,7 +16,7 @@ use Rattle.model.specs.Word.{Substitution, Solves}
 use Rattle.model.specs.Solvable.{solvable}
 use Rattle.model.specs.Order.{Earlier, firstSolution}
 use Rattle.model.specs.Filling.{filling, encodeFilling, substitutionIn}
-use Rattle.calls.specs.Calls.{Answer, refused, finished, ofSheet, reading, verdict, checking, written, searchValues, searchingOf, searching, decision, handed, Decides}
+use Rattle.calls.specs.Calls.{Answer, refused, finished, ofSheet, reading, verdict, checking, written, searchValues, searchingOf, searching, decision, following, Decides}
 use Rattle.calls.specs.Report.{report, refusedLine, apartLine, answerText, searchText, searchPrinted}
 use Rattle.model.proofs.Reading.{read-prefix}
 use Rattle.model.proofs.Known.{accepted-in-range, accepted-counts}
@@ -127,7 +127,7 @@ module _ (b before after : List ℕ) (call : Decides (searching b (length before
     pub clash-handed : after ≡ encodeFilling (firstSolution (sheetOf b)) ++ drop (9 * length (sheetOf b .limits)) before
     clash-handed =
         call .1
-        ∙ ap (λ a. written (handed a) before) (told .values)
+        ∙ ap (λ a. written (following a) before) (told .values)
         ∙ ap (λ n. encodeFilling (firstSolution (sheetOf b)) ++ drop n before) clash-sized
 
     pub clash-taken : take (9 * length (sheetOf b .limits)) after ≡ encodeFilling (firstSolution (sheetOf b))
@@ -139,10 +139,10 @@ module _ (b before after : List ℕ) (call : Decides (searching b (length before
 -- Where it was not, nothing was changed.
 pub apart-unchanged : (b before after : List ℕ) → Decides (searching b (length before)) before (verdict false) after → after ≡ before
 apart-unchanged b before after call =
-    call .1 ∙ ap (λ a. written (handed a) before) (verdict-told b (length before) false (call .0) .values)
+    call .1 ∙ ap (λ a. written (following a) before) (verdict-told b (length before) false (call .0) .values)
 
 pub refused-unchanged : (a : Answer) {before after : List ℕ} {answer : Answer} → Decides a before answer after → (n : ℕ) → answer ≡ refused n → after ≡ before
-refused-unchanged a {before} call n e = call .1 ∙ ap (λ a. written (handed a) before) (decision-refused a (sym e ∙ call .0))
+refused-unchanged a {before} call n e = call .1 ∙ ap (λ a. written (following a) before) (decision-refused a (sym e ∙ call .0))
 
 -- What the search program prints, with room for any filling, by the answer.
 module _ (b : List ℕ) where

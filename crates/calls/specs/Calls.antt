@@ -97,17 +97,17 @@ unfoldable pub searching : List ℕ → ℕ → Answer
 searching b room = ofSheet (read b) (λ s. searchingOf s room)
 
 -- A call that answers the first of its values and hands the others over: "A clash fills the first 9 × V bytes and no more; apart changes none." Refused, "no
--- lent byte changes". `Decides` says both of an answer and of a buffer before and after.
+-- lent byte changes". `Decides` says both of an answer and of a buffer before and after. The first of the values; and those that follow it.
 abbrev pub decision : Answer → Answer
 decision (refused n) = refused n
 decision (finished values) = finished (take 1 values)
 
-abbrev pub handed : Answer → Answer
-handed (refused n) = refused n
-handed (finished values) = finished (drop 1 values)
+abbrev pub following : Answer → Answer
+following (refused n) = refused n
+following (finished values) = finished (drop 1 values)
 
 abbrev pub Decides : Answer → List ℕ → Answer → List ℕ → Type 0
-Decides a before answer after = (answer ≡ decision a) × (after ≡ written (handed a) before)
+Decides a before answer after = (answer ≡ decision a) × (after ≡ written (following a) before)
 
 -- Counting: "no refusal of its own. The answer is the variable count, the clause count C, and the size allowance (C+1) × 80".
 abbrev pub clauseCounts : Sheet → List ℕ

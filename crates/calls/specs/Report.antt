@@ -66,13 +66,14 @@ abbrev pub answerText : Answer → List ℕ
 answerText (refused n) = refusedLine n
 answerText (finished values) = values
 
--- What the search program prints for the sheet b: the report of the first solution, or `apart`.
+-- the report of the first solution, or `apart`
 abbrev pub searchText : Sheet → List ℕ
 searchText s = pick (solvable s) (report s (firstSolution s)) apartLine
 
+-- What the search program prints for the bytes b: that of the sheet, or the refusal.
 unfoldable pub searchPrinted : List ℕ → List ℕ
 searchPrinted b = answerText (ofSheet (read b) (λ s. finished (searchText s)))
 
--- "The clause program, sheet on standard input, prints" the clause file.
+-- "The clause program, sheet on standard input, prints" the clause file, or the refusal.
 unfoldable pub clausesPrinted : List ℕ → List ℕ
 clausesPrinted b = answerText (ofSheet (read b) (λ s. finished (file s)))

@@ -130,7 +130,7 @@ fn least(
 
 // The first vector from `lo` to `hi` at which the rows hold and an attempt succeeds: x and w are the equations, as in `trails::attempt`, y the cells of the equations
 // reversed, and rows the inequalities, as many as `count`. It is the first by total, then by the shorter field 0 and so on, if the
-// shortest is asked for; else any one. Not ok where there is none.
+// first is asked for (`shortest`); else any one. Not ok where there is none.
 pub fn first(
     x: &[u8],
     y: &[u8],

@@ -1,15 +1,15 @@
 -- The order of substitutions, said by fields and places: of two legal ones the one with the least total length comes first; then the one whose text is
 -- shorter in the first field in which the lengths differ; then the one with the lower letter at the first place at which the texts differ. Assumes nothing.
-use mathlib.Core.Path.{_≡_, sym, ap, _∙_}
+use mathlib.Core.Path.{_≡_, refl, sym, ap, _∙_}
 use mathlib.Core.List.{List, [], _∷_}
 use mathlib.Core.Logic.{_⊎_, inl, inr, _↔_}
-use Prim.Native.Nat.{ℕ, zero, suc, _<_}
+use Prim.Native.Nat.{ℕ, zero, suc, _+_, _<_, _≤_}
 use native.Mathlib.Omega.{arith}
 use lib.Dec.{ltb}
 use lib.ListN.{length, length-map, getD, drop, List·getD-map, List·getD-eq-default}
 use lib.Seq.{ext-getD}
 use borrow.Author.Tests.{ltb-true, ltb-false}
-use Rattle.model.specs.Lists.{each}
+use Rattle.model.specs.Lists.{each, total}
 use Rattle.model.specs.Sheet.{Sheet}
 use Rattle.model.specs.Word.{Substitution, text, Legal}
 use Rattle.model.specs.Order.{Lex, totalLength, fieldLengths, fieldLetters, Earlier}
@@ -34,9 +34,29 @@ pub record Lower (g h : Substitution) : Type 0 where
 abbrev pub SameLengths : Substitution → Substitution → Type 0
 SameLengths g h = (f : ℕ) → length (text g f) ≡ length (text h f)
 
+-- the lengths of all fields added up
+abbrev pub lengthSum : Substitution → ℕ
+lengthSum g = total (length g) (λ f. length (text g f))
+
 -- "least total field length; then the shorter field 0, field 1 and so on; then the lower letter numbers, field by field from the left"
 abbrev pub ByFields : Substitution → Substitution → Type 0
-ByFields g h = (totalLength g < totalLength h) ⊎ ((totalLength g ≡ totalLength h) × (Shorter g h ⊎ (SameLengths g h × Lower g h)))
+ByFields g h = (lengthSum g < lengthSum h) ⊎ ((lengthSum g ≡ lengthSum h) × (Shorter g h ⊎ (SameLengths g h × Lower g h)))
+
+-- a sum, its first term split off; and that of the lengths is the total length, whatever is counted past the last field
+total-first : (k : ℕ) (h : ℕ → ℕ) → total (suc k) h ≡ h 0 + total k (λ i. h (suc i))
+unfolding total
+total-first zero h = omega arith
+total-first (suc k) h = let e = total-first k h in omega arith
+
+pub total-lengths : (g : Substitution) (k : ℕ) → length g ≤ k → total k (λ f. length (text g f)) ≡ totalLength g
+unfolding total totalLength
+total-lengths [] zero h = refl
+total-lengths [] (suc k) h = let e = total-lengths [] k (omega arith) in omega arith
+total-lengths (t ∷ g) zero h = absurd (omega arith)
+total-lengths (t ∷ g) (suc k) h = total-first k (λ f. length (text (t ∷ g) f)) ∙ ap (λ n. length t + n) (total-lengths g k (omega arith))
+
+sum-total : (g : Substitution) → lengthSum g ≡ totalLength g
+sum-total g = total-lengths g (length g) (omega arith)
 
 -- where a list is lower at the first place at which two lists differ, it comes before the other
 place-lex : (xs ys : List ℕ) (i : ℕ) → i < length xs → ((j : ℕ) → j < i → getD xs j 0 ≡ getD ys j 0) → getD xs i 0 < getD ys i 0 → Lex xs ys
@@ -117,14 +137,20 @@ earlier-by-fields s g h p q = (λ e. out (earlier-steps g h sized e), λ e. step
     lengths-out : fieldLengths g ≡ fieldLengths h → SameLengths g h
     lengths-out e f = sym (length-at g f) ∙ ap (λ (xs : List ℕ). getD xs f 0) e ∙ length-at h f
 
+    sums-out : totalLength g ≡ totalLength h → lengthSum g ≡ lengthSum h
+    sums-out e = sum-total g ∙ e ∙ sym (sum-total h)
+
+    sums-in : lengthSum g ≡ lengthSum h → totalLength g ≡ totalLength h
+    sums-in e = sym (sum-total g) ∙ e ∙ sum-total h
+
     out : Steps g h → ByFields g h
-    out (inl k) = inl k
-    out (inr (e, inl k)) = inr (e, inl (shorter-out g h sized k))
-    out (inr (e, inr k)) = inr (e, inr (lengths-out (k .0), lower-out g h (k .0) (k .1)))
+    out (inl k) = let a = sum-total g in let b = sum-total h in inl (omega arith)
+    out (inr (e, inl k)) = inr (sums-out e, inl (shorter-out g h sized k))
+    out (inr (e, inr k)) = inr (sums-out e, inr (lengths-out (k .0), lower-out g h (k .0) (k .1)))
 
     back : ByFields g h → Steps g h
-    back (inl k) = inl k
-    back (inr (e, inl k)) = inr (e, inl (shorter-in g h sized k))
+    back (inl k) = let a = sum-total g in let b = sum-total h in inl (omega arith)
+    back (inr (e, inl k)) = inr (sums-in e, inl (shorter-in g h sized k))
     back (inr (e, inr (n, k))) =
         let lengths = same-lengths g h sized n in
-        inr (e, inr (lengths, lower-in g h lengths (k .field) (k .place) (k .same-texts) (k .same-letters) (k .lower)))
+        inr (sums-in e, inr (lengths, lower-in g h lengths (k .field) (k .place) (k .same-texts) (k .same-letters) (k .lower)))

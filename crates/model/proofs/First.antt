@@ -109,8 +109,12 @@ cases =
     ∷ (sheet 2 3 1 0 (97 ∷ 98 ∷ 1 ∷ 1 ∷ 1 ∷ 4 ∷ 4 ∷ 0 ∷ 128 ∷ 0 ∷ 129 ∷ 0 ∷ 130 ∷ 128 ∷ 1 ∷ []) first [] ∷ (1 ∷ []) ∷ (0 ∷ []) ∷ [])
     -- XY against YX, not both empty, and Z in no template: X empty, Y=A, Z empty
     ∷ (sheet 2 3 1 1 (65 ∷ 66 ∷ 1 ∷ 1 ∷ 1 ∷ 2 ∷ 2 ∷ 128 ∷ 129 ∷ 129 ∷ 128 ∷ 255 ∷ 255 ∷ 0 ∷ 255 ∷ 255 ∷ []) first [] ∷ (0 ∷ []) ∷ [] ∷ [])
-    -- the same, and X not shorter than Y: X=A, and Y is empty
+    -- X and Y alone, and X not shorter than Y: X=A, and Y is empty
     ∷ (sheet 2 2 1 2 (65 ∷ 66 ∷ 1 ∷ 1 ∷ 2 ∷ 2 ∷ 128 ∷ 129 ∷ 129 ∷ 128 ∷ 255 ∷ 255 ∷ 255 ∷ 255 ∷ 255 ∷ 1 ∷ 0 ∷ 0 ∷ []) first (0 ∷ []) ∷ [] ∷ [])
+    -- AA against XXZ, and Y in no template: X=A and no more, though with X empty Z=AA would do
+    ∷ (sheet 1 3 1 0 (65 ∷ 2 ∷ 0 ∷ 2 ∷ 2 ∷ 3 ∷ 0 ∷ 0 ∷ 128 ∷ 128 ∷ 130 ∷ []) first (0 ∷ []) ∷ [] ∷ [] ∷ [])
+    -- BA against YX: X empty and Y=BA, though X=A and Y=B have the lower letter first
+    ∷ (sheet 2 2 1 0 (65 ∷ 66 ∷ 2 ∷ 2 ∷ 2 ∷ 2 ∷ 1 ∷ 0 ∷ 129 ∷ 128 ∷ []) first [] ∷ (1 ∷ 0 ∷ []) ∷ [])
     ∷ []
 
 first-solutions : map (λ (c : Case). firstSolution (sheetIn (read (c .bytes)))) cases ≡ map (λ (c : Case). c .first) cases

@@ -16,7 +16,7 @@ use Rattle.model.specs.Word.{Substitution, Legal}
 use Rattle.model.specs.Order.{Lex, totalLength, fieldLengths, fieldLetters, ranks, Earlier, lex, earlier}
 use Rattle.model.proofs.Lists.{never, by-test, and-split, and-join, or-cases, or-left, or-right}
 
--- Computed: two substitutions that one step of the order decides, and every later step would decide the other way round.
+-- Computed: two substitutions that one step of the order decides, and the later steps would decide the other way round.
 record Two : Type 0 where
   earlier-one : Substitution
   later-one : Substitution
@@ -28,7 +28,7 @@ infix 5 _before_
 abbrev compared : List Two
 compared =
     -- "least total field length": field 0 is longer, and letters are higher
-    ((1 ∷ []) ∷ [] ∷ [] before [] ∷ (0 ∷ 0 ∷ []) ∷ [])
+    ((1 ∷ []) ∷ [] ∷ [] ∷ [] before [] ∷ [] ∷ (0 ∷ 0 ∷ []) ∷ [])
     -- "then the shorter field 0": field 1 is longer, and letters are higher
     ∷ ([] ∷ (1 ∷ 1 ∷ []) ∷ [] before (0 ∷ []) ∷ (0 ∷ []) ∷ [])
     -- "field 1 and so on": field 2 is longer, and letters are higher
@@ -122,7 +122,6 @@ lex-second (x ∷ xs) us vs h = inr (refl, lex-second xs us vs h)
 -- where two lists differ first
 pub record LowerAt (xs ys : List ℕ) : Type 0 where
   pub at : ℕ
-  pub inside : at < length xs
   pub same : (i : ℕ) → i < at → getD xs i 0 ≡ getD ys i 0
   pub less : getD xs at 0 < getD ys at 0
 
@@ -130,8 +129,8 @@ pub lex-place : (xs ys : List ℕ) → Lex xs ys → LowerAt xs ys
 unfolding Lex
 lex-place [] ys h = absurd h
 lex-place (x ∷ xs) [] h = absurd h
-lex-place (x ∷ xs) (y ∷ ys) (inl h) = record { at = 0; inside = omega arith; same = λ i k. absurd (omega arith); less = h }
-lex-place (x ∷ xs) (y ∷ ys) (inr h) = let r = lex-place xs ys (h .1) in record { at = suc (r .at); inside = omega (arith, r .inside); same = same-next r; less = r .less }
+lex-place (x ∷ xs) (y ∷ ys) (inl h) = record { at = 0; same = λ i k. absurd (omega arith); less = h }
+lex-place (x ∷ xs) (y ∷ ys) (inr h) = let r = lex-place xs ys (h .1) in record { at = suc (r .at); same = same-next r; less = r .less }
   where
     same-next : (r : LowerAt xs ys) (i : ℕ) → i < suc (r .at) → getD (x ∷ xs) i 0 ≡ getD (y ∷ ys) i 0
     same-next r zero k = h .0

@@ -1,5 +1,5 @@
--- A field that nothing asks for is empty in the first solution: it stands in no template, and no rule counts its length. A solution in which it is not
--- empty comes after the one in which it is emptied. Assumes nothing.
+-- A field that nothing asks for is empty in a solution that none comes before: it stands in no template, and no rule counts its length. A solution in which
+-- it is not empty comes after the one in which it is emptied. Assumes nothing.
 use mathlib.Core.Path.{_≡_, refl, sym, ap, ap₂, _∙_}
 use mathlib.Core.List.{List, [], _∷_}
 use mathlib.Core.Logic.{inl}
@@ -12,11 +12,10 @@ use lib.Seq.{getD-set-same, getD-set-other}
 use Rattle.model.specs.Lists.{All}
 use Rattle.model.specs.Sheet.{Symbol, letter, field, Equation, Constraint, Sheet, coefficient}
 use Rattle.model.specs.Word.{Substitution, text, Admits, symbolWord, spell, EquationHolds, weight, ConstraintHolds, Solves}
-use Rattle.model.specs.Order.{totalLength, firstSolution}
+use Rattle.model.specs.Order.{totalLength, Earlier}
 use Rattle.model.proofs.Lists.{weaken, each-same}
 use Rattle.model.proofs.Words.{keeps-every}
 use Rattle.model.proofs.Order.{steps-earlier}
-use Rattle.model.proofs.First.{first-solves, none-before-first}
 
 -- field f stands in no place of a template
 abbrev pub Without : ℕ → List Symbol → Type 0
@@ -82,18 +81,13 @@ emptied-shorter [] f h = absurd (omega arith)
 emptied-shorter (t ∷ g) zero h = omega arith
 emptied-shorter (t ∷ g) (suc f) h = let less = emptied-shorter g f h in omega arith
 
-pub unasked-empty : (s : Sheet) (g : Substitution) → Solves s g → (f : ℕ) → Unasked s f → f < length (s .limits) → length (text (firstSolution s) f) ≡ 0
-unasked-empty s g h f u inside = by (ℕ-discrete (length (text first f)) 0)
+pub unasked-empty : (s : Sheet) (g : Substitution) → Solves s g → ((k : Substitution) → Solves s k → Earlier k g → ⊥)
+    → (f : ℕ) → Unasked s f → f < length (s .limits) → length (text g f) ≡ 0
+unasked-empty s g h none f u inside = by (ℕ-discrete (length (text g f)) 0)
   where
-    first : Substitution
-    first = firstSolution s
+    here : f < length g
+    here = let e = h .is-legal .one-each in omega arith
 
-    solves : Solves s first
-    solves = first-solves s g h
-
-    here : f < length first
-    here = let e = solves .is-legal .one-each in omega arith
-
-    by : Dec (length (text first f) ≡ 0) → length (text first f) ≡ 0
+    by : Dec (length (text g f) ≡ 0) → length (text g f) ≡ 0
     by (yes e) = e
-    by (no n) = absurd (none-before-first s (set first f []) (emptied-solves first f here s u solves) (steps-earlier (set first f []) first (inl (emptied-shorter first f (omega arith)))))
+    by (no n) = absurd (none (set g f []) (emptied-solves g f here s u h) (steps-earlier (set g f []) g (inl (emptied-shorter g f (omega arith)))))

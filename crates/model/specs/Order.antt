@@ -13,7 +13,8 @@ use Rattle.model.specs.Sheet.{Sheet}
 use Rattle.model.specs.Word.{Substitution, solves}
 use Rattle.model.specs.Solvable.{everyLegal}
 
--- Lexicographic order: the first number in which two lists differ is lower in the first list.
+-- Lexicographic order: the first number in which two lists differ is lower in the first list. (Of a list and a longer one that starts with it neither is
+-- lower.)
 unfoldable pub Lex : List ℕ → List ℕ → Type 0
 Lex [] ys = ⊥
 Lex (x ∷ xs) [] = ⊥
@@ -48,7 +49,7 @@ lex (x ∷ xs) (y ∷ ys) = ltb x y || (eqb x y && lex xs ys)
 abbrev pub earlier : Substitution → Substitution → Bool
 earlier g h = lex (ranks g) (ranks h)
 
--- the earliest of g and those of a list; of a list, where it has any
+-- the earliest of g and those of a list; of a list, [] where it has none
 unfoldable pub earliest : Substitution → List Substitution → Substitution
 earliest g [] = g
 earliest g (h ∷ hs) = earliest (pick (earlier h g) h g) hs
@@ -57,6 +58,6 @@ abbrev pub earliestOf : List Substitution → Substitution
 earliestOf [] = []
 earliestOf (g ∷ gs) = earliest g gs
 
--- "the first clash": of all solutions of a sheet the one that no other comes before
+-- "the first clash": of all solutions of a sheet the one that no other comes before, [] where there is none
 unfoldable pub firstSolution : Sheet → Substitution
 firstSolution s = earliestOf (keep (solves s) (everyLegal s))

@@ -1,14 +1,13 @@
 -- The order of substitutions, and the order of their length vectors: an earlier one has a sooner vector, or the same one and a lower letter. Assumes nothing.
-use mathlib.Core.Path.{_≡_, refl, sym, ap, _∙_}
-use mathlib.Core.List.{List, [], _∷_}
+use mathlib.Core.Path.{_≡_, sym, ap, _∙_}
+use mathlib.Core.List.{List, []}
 use mathlib.Core.Logic.{_⊎_, inl, inr}
-use Prim.Native.Nat.{ℕ, zero, suc, _+_, _<_, _≤_}
+use Prim.Native.Nat.{ℕ, _<_, _≤_}
 use native.Mathlib.Omega.{arith}
 use lib.ListN.{length, List·getD-eq-default}
 use Rattle.model.specs.Lists.{from, total}
 use Rattle.model.specs.Word.{Substitution, text}
-use Rattle.model.specs.Order.{totalLength}
-use Rattle.model.proofs.ByFields.{Shorter, Lower, SameLengths, ByFields}
+use Rattle.model.proofs.ByFields.{Shorter, Lower, SameLengths, lengthSum, ByFields, total-lengths}
 use Rattle.unification.proofs.Laws.{by-lt}
 use Rattle.inequalities.specs.Asked.{lengthsOf}
 use Rattle.inequalities.proofs.Asked.{lengths-at}
@@ -17,22 +16,10 @@ use Rattle.bounds.proofs.Sums.{sum-grows}
 use Rattle.bounds.proofs.Widest.{Same}
 use Rattle.boxes.specs.Vectors.{Before, Sooner}
 
--- a sum, its first term split off; and the sum of the lengths of all texts
-total-first : (k : ℕ) (h : ℕ → ℕ) → total (suc k) h ≡ h 0 + total k (λ i. h (suc i))
-unfolding total
-total-first zero h = omega arith
-total-first (suc k) h = let e = total-first k h in omega arith
-
-total-lengths : (g : Substitution) (k : ℕ) → length g ≤ k → total k (λ f. length (text g f)) ≡ totalLength g
-unfolding total totalLength
-total-lengths [] zero h = refl
-total-lengths [] (suc k) h = let e = total-lengths [] k (omega arith) in omega arith
-total-lengths (t ∷ g) zero h = absurd (omega arith)
-total-lengths (t ∷ g) (suc k) h = total-first k (λ f. length (text (t ∷ g) f)) ∙ ap (λ n. length t + n) (total-lengths g k (omega arith))
-
-sum-total : (g : Substitution) → length g ≤ 6 → sumOf (lengthsOf g) ≡ totalLength g
+-- the sum of a vector
+vector-sum : (g : Substitution) → length g ≤ 6 → sumOf (lengthsOf g) ≡ lengthSum g
 unfolding sumOf total lengthsOf from
-sum-total g h = total-lengths g 6 h
+vector-sum g h = total-lengths g 6 h ∙ sym (total-lengths g (length g) (omega arith))
 
 -- texts of the same lengths
 pub same-vectors : (g h : Substitution) → SameLengths g h → Same (lengthsOf g) (lengthsOf h)
@@ -53,8 +40,8 @@ module _ (g h : Substitution) (few : length g ≤ 6) (sized : length g ≡ lengt
 
   -- the vectors that an earlier one has
   pub earlier-vectors : ByFields g h → Sooner (lengthsOf g) (lengthsOf h) ⊎ (SameLengths g h × Lower g h)
-  earlier-vectors (inl l) = inl (inl (let a = sum-total g few in let b = sum-total h (omega arith) in omega arith))
-  earlier-vectors (inr (e, inl l)) = inl (inr (sum-total g few ∙ e ∙ sym (sum-total h (omega arith)), before l))
+  earlier-vectors (inl l) = inl (inl (let a = vector-sum g few in let b = vector-sum h (omega arith) in omega arith))
+  earlier-vectors (inr (e, inl l)) = inl (inr (vector-sum g few ∙ e ∙ sym (vector-sum h (omega arith)), before l))
   earlier-vectors (inr (e, inr l)) = inr l
 
 -- what comes sooner than a vector comes sooner than one of the same six lengths

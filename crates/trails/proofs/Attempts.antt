@@ -1,4 +1,4 @@
--- An attempt is right: what it answers is a solution with these lengths, and where it fails there is none. So where the walk of all equations fails in a
+-- An attempt is right: what it answers is a solution with these lengths, none of which has a lower letter anywhere, and where it fails there is none. So where the walk of all equations fails in a
 -- box, no attempt at lengths of the box succeeds. Assumes nothing.
 use mathlib.Core.Path.{_≡_, refl, sym, ap, subst, _∙_}
 use mathlib.Core.Bool.{true, false}

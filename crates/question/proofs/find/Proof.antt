@@ -1,5 +1,5 @@
 -- `question::find` meets its contract: the asked equations are expanded, and reversed too, the rows say what is asked of the lengths, and the first vector
--- at which both hold is an answer. Assumes nothing.
+-- at which both hold is an answer, before which none comes if the first is asked for. Assumes nothing.
 use mathlib.Core.Path.{_≡_, sym, subst, _∙_}
 use mathlib.Core.Bool.{true, false}
 use mathlib.Core.List.{List, map}
