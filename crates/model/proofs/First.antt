@@ -1,5 +1,5 @@
--- The first solution of a sheet (document 02, No. 1): where there is a solution it is one, no solution comes before it, and it is the only one of which
--- that holds. Assumes nothing.
+-- The first solution of a sheet (document 02, No. 1), computed, and its laws: where there is a solution it is one, no solution comes before it, and it is
+-- the only one of which that holds. Assumes nothing.
 use mathlib.Core.Path.{_≡_, refl, sym, subst, _∙_}
 use mathlib.Core.Bool.{true}
 use mathlib.Core.List.{List, [], _∷_, map}
@@ -17,6 +17,37 @@ use Rattle.model.proofs.Keeping.{keep-out, keep-in}
 use Rattle.model.proofs.Words.{solves-out, solves-in}
 use Rattle.model.proofs.Solvable.{every-legal, listed-legal}
 use Rattle.model.proofs.Order.{lex-out, lex-in, earlier-irreflexive, earlier-transitive, earlier-compare}
+
+-- Computed: sheets, and the first of their solutions.
+record Case : Type 0 where
+  bytes : List ℕ
+  first : Substitution
+
+abbrev _first_ : List ℕ → Substitution → Case
+_first_ b g = record { bytes = b; first = g }
+
+infix 5 _first_
+abbrev cases : List Case
+cases =
+    -- document 01's sheet P: X=A, the only one
+    (P first (0 ∷ []) ∷ [])
+    -- its example (e), AX against XA: X empty before X=A
+    ∷ (sheet 2 1 1 0 (65 ∷ 66 ∷ 1 ∷ 2 ∷ 2 ∷ 0 ∷ 128 ∷ 128 ∷ 0 ∷ []) first [] ∷ [])
+    -- its example (k), aXaY against aZXb: X empty, Y=b, Z=a
+    ∷ (sheet 2 3 1 0 (97 ∷ 98 ∷ 1 ∷ 1 ∷ 1 ∷ 4 ∷ 4 ∷ 0 ∷ 128 ∷ 0 ∷ 129 ∷ 0 ∷ 130 ∷ 128 ∷ 1 ∷ []) first [] ∷ (1 ∷ []) ∷ (0 ∷ []) ∷ [])
+    -- XY against YX, not both empty, and Z in no template: X empty, Y=A, Z empty
+    ∷ (sheet 2 3 1 1 (65 ∷ 66 ∷ 1 ∷ 1 ∷ 1 ∷ 2 ∷ 2 ∷ 128 ∷ 129 ∷ 129 ∷ 128 ∷ 255 ∷ 255 ∷ 0 ∷ 255 ∷ 255 ∷ []) first [] ∷ (0 ∷ []) ∷ [] ∷ [])
+    -- X and Y alone, and X not shorter than Y: X=A, and Y is empty
+    ∷ (sheet 2 2 1 2 (65 ∷ 66 ∷ 1 ∷ 1 ∷ 2 ∷ 2 ∷ 128 ∷ 129 ∷ 129 ∷ 128 ∷ 255 ∷ 255 ∷ 255 ∷ 255 ∷ 255 ∷ 1 ∷ 0 ∷ 0 ∷ []) first (0 ∷ []) ∷ [] ∷ [])
+    -- AA against XXZ, and Y in no template: X=A and no more, though with X empty Z=AA would do
+    ∷ (sheet 1 3 1 0 (65 ∷ 2 ∷ 0 ∷ 2 ∷ 2 ∷ 3 ∷ 0 ∷ 0 ∷ 128 ∷ 128 ∷ 130 ∷ []) first (0 ∷ []) ∷ [] ∷ [] ∷ [])
+    -- BA against YX: X empty and Y=BA, though X=A and Y=B have the lower letter first
+    ∷ (sheet 2 2 1 0 (65 ∷ 66 ∷ 2 ∷ 2 ∷ 2 ∷ 2 ∷ 1 ∷ 0 ∷ 129 ∷ 128 ∷ []) first [] ∷ (1 ∷ 0 ∷ []) ∷ [])
+    ∷ []
+
+first-solutions : map (λ (c : Case). firstSolution (sheetIn (read (c .bytes)))) cases ≡ map (λ (c : Case). c .first) cases
+unfolding startsWith row times sides anEquation aConstraint walk width signed opening read each from all keep same spell weight sameWord equationHolds constraintHolds keeps solves allTexts substitutions totalLength fieldLetters ranks lex earliest firstSolution
+first-solutions = refl
 
 -- h does not come before g
 abbrev NotBefore : Substitution → Substitution → Type 0
@@ -89,34 +120,3 @@ module _ (s : Sheet) where
         by (inl e) = e
         by (inr (inl e)) = absurd (none-before-first e)
         by (inr (inr e)) = absurd (none (firstSolution s) first-solves e)
-
--- Computed: sheets, and the first of their solutions.
-record Case : Type 0 where
-  bytes : List ℕ
-  first : Substitution
-
-abbrev _first_ : List ℕ → Substitution → Case
-_first_ b g = record { bytes = b; first = g }
-
-infix 5 _first_
-abbrev cases : List Case
-cases =
-    -- document 01's sheet P: X=A, the only one
-    (P first (0 ∷ []) ∷ [])
-    -- its example (e), AX against XA: X empty before X=A
-    ∷ (sheet 2 1 1 0 (65 ∷ 66 ∷ 1 ∷ 2 ∷ 2 ∷ 0 ∷ 128 ∷ 128 ∷ 0 ∷ []) first [] ∷ [])
-    -- its example (k), aXaY against aZXb: X empty, Y=b, Z=a
-    ∷ (sheet 2 3 1 0 (97 ∷ 98 ∷ 1 ∷ 1 ∷ 1 ∷ 4 ∷ 4 ∷ 0 ∷ 128 ∷ 0 ∷ 129 ∷ 0 ∷ 130 ∷ 128 ∷ 1 ∷ []) first [] ∷ (1 ∷ []) ∷ (0 ∷ []) ∷ [])
-    -- XY against YX, not both empty, and Z in no template: X empty, Y=A, Z empty
-    ∷ (sheet 2 3 1 1 (65 ∷ 66 ∷ 1 ∷ 1 ∷ 1 ∷ 2 ∷ 2 ∷ 128 ∷ 129 ∷ 129 ∷ 128 ∷ 255 ∷ 255 ∷ 0 ∷ 255 ∷ 255 ∷ []) first [] ∷ (0 ∷ []) ∷ [] ∷ [])
-    -- X and Y alone, and X not shorter than Y: X=A, and Y is empty
-    ∷ (sheet 2 2 1 2 (65 ∷ 66 ∷ 1 ∷ 1 ∷ 2 ∷ 2 ∷ 128 ∷ 129 ∷ 129 ∷ 128 ∷ 255 ∷ 255 ∷ 255 ∷ 255 ∷ 255 ∷ 1 ∷ 0 ∷ 0 ∷ []) first (0 ∷ []) ∷ [] ∷ [])
-    -- AA against XXZ, and Y in no template: X=A and no more, though with X empty Z=AA would do
-    ∷ (sheet 1 3 1 0 (65 ∷ 2 ∷ 0 ∷ 2 ∷ 2 ∷ 3 ∷ 0 ∷ 0 ∷ 128 ∷ 128 ∷ 130 ∷ []) first (0 ∷ []) ∷ [] ∷ [] ∷ [])
-    -- BA against YX: X empty and Y=BA, though X=A and Y=B have the lower letter first
-    ∷ (sheet 2 2 1 0 (65 ∷ 66 ∷ 2 ∷ 2 ∷ 2 ∷ 2 ∷ 1 ∷ 0 ∷ 129 ∷ 128 ∷ []) first [] ∷ (1 ∷ 0 ∷ []) ∷ [])
-    ∷ []
-
-first-solutions : map (λ (c : Case). firstSolution (sheetIn (read (c .bytes)))) cases ≡ map (λ (c : Case). c .first) cases
-unfolding startsWith row times sides anEquation aConstraint walk width signed opening read each from all keep same spell weight sameWord equationHolds constraintHolds keeps solves allTexts substitutions totalLength fieldLetters ranks lex earliest firstSolution
-first-solutions = refl
