@@ -21,7 +21,7 @@ use Rattle.model.proofs.Words.{same-word-equal, solves-out, solves-in}
 use Rattle.model.proofs.Templates.{template-room}
 use Rattle.calls.proofs.Operations.{sheet-accepted, sheet-finished, required, filling-finished, spelling-on, spelling-text, same-values}
 
--- the answer is clash where the test passes, and else not
+-- the answer tells whether the test passes
 pub verdict-same : (t u : Bool) → verdict t ≡ verdict u → t ≡ u
 verdict-same true true e = refl
 verdict-same false false e = refl

@@ -23,7 +23,7 @@ Without f t = All (λ x. x ≡ field f → ⊥) t
 
 pub record Unasked (s : Sheet) (f : ℕ) : Type 0 where
   pub in-no-template : All (λ (e : Equation). Without f (e .left) × Without f (e .right)) (s .equations)
-  pub in-no-rule : All (λ (r : Constraint). coefficient r f ≡ pos 0) (s .constraints)
+  pub in-no-constraint : All (λ (r : Constraint). coefficient r f ≡ pos 0) (s .constraints)
 
 -- one field's text taken away
 module _ (g : Substitution) (f : ℕ) (inside : f < length g) where
@@ -64,7 +64,7 @@ module _ (g : Substitution) (f : ℕ) (inside : f < length g) where
     equations-hold = both (λ (e : Equation). Without f (e .left) × Without f (e .right)) (EquationHolds s g) (EquationHolds s emptied)
         (λ e w q. rw (spells-same (e .left) (w .0), spells-same (e .right) (w .1)) q) (s .equations) (u .in-no-template) (h .equations-hold);
     constraints-hold = both (λ (r : Constraint). coefficient r f ≡ pos 0) (ConstraintHolds s g) (ConstraintHolds s emptied)
-        (λ r z q. rw (weighs-same r z (length (s .limits))) q) (s .constraints) (u .in-no-rule) (h .constraints-hold);
+        (λ r z q. rw (weighs-same r z (length (s .limits))) q) (s .constraints) (u .in-no-constraint) (h .constraints-hold);
     keeps-all = keeps-every s emptied;
   }
     where

@@ -130,7 +130,7 @@ pub attempt-complete : (es : List Equation) (n : List ℕ) (s : ℕ → ℕ) →
 unfolding attemptOf
 attempt-complete es n s p h = rw (walked s p n es h .goes)
 
--- What it answers is nowhere above a solution with these lengths: at each place it has the letter that every such solution has there, or letter 0.
+-- What it answers is nowhere above a solution with these lengths, since at each place it has a letter that every such solution has there, or letter 0.
 settle-least : (s : ℕ → ℕ) → Refining s → (x : ℕ) → settle x ≤ s x
 settle-least s p x =
     pick-ind (λ y. y ≤ s x) (ltb x 8)
