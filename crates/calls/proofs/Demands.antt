@@ -207,7 +207,7 @@ module _ (b : List ℕ) (y : Bytes b) where
 
     pub search-hands-over-a-clash : answer ≡ verdict true → HandsOverAClash b before after
     search-hands-over-a-clash e =
-        (firstSolution (sheetOf b), searches.clash-solves b before after (answered-as e), searches.clash-handed b before after (answered-as e) y)
+        (firstSolution (sheetOf b), searches.clash-first b before after (answered-as e) .is-solution, searches.clash-handed b before after (answered-as e) y)
 
     pub search-else-answers-apart : (((g : Substitution) × Solves (sheetOf b) g) → ⊥) → (answer ≡ verdict false) × (after ≡ before)
     search-else-answers-apart none =

@@ -8,16 +8,16 @@ use Prim.Native.Nat.{ℕ, _*_, _<_, _≤_}
 use lib.ListN.{length, take, drop}
 use Rattle.model.specs.Lists.{Bytes}
 use Rattle.model.specs.Sheet.{Sheet, Accepted, sheetOf}
-use Rattle.model.specs.Word.{Substitution, text, Legal, Solves}
+use Rattle.model.specs.Word.{Substitution, text, Legal}
 use Rattle.model.specs.Solvable.{solvable}
-use Rattle.model.specs.Order.{Earlier, firstSolution}
+use Rattle.model.specs.Order.{Earlier, IsFirst, firstSolution}
 use Rattle.model.specs.Filling.{encodeFilling}
 use Rattle.calls.specs.Calls.{Answer, verdict, searching, Decides}
 use Rattle.model.proofs.Order.{earlier-irreflexive, earlier-transitive, one-is-earlier}
 use Rattle.model.proofs.ByFields.{ByFields, earlier-by-fields}
-use Rattle.model.proofs.First.{none-before-first, first-only}
+use Rattle.model.proofs.First.{first-only}
 use Rattle.model.proofs.Unused.{Unasked, unasked-empty}
-use Rattle.calls.proofs.Searching.{searching-verdict, verdict-told, clash-solves, clash-handed, clash-taken}
+use Rattle.calls.proofs.Searching.{searching-verdict, verdict-told, clash-first, clash-handed, clash-taken}
 
 -- "The order is: least total field length; then the shorter field 0, field 1 and so on; then the lower letter numbers, field by field from the left." Of two
 -- fillings of a sheet, over all its fields; and it is an order: none comes before itself, what comes before an earlier one comes before it, and of two that
@@ -34,21 +34,19 @@ before-an-earlier = earlier-transitive
 pub one-before-the-other : (s : Sheet) (g h : Substitution) → Legal s g → Legal s h → (g ≡ h → ⊥) → Earlier g h ⊎ Earlier h g
 one-before-the-other = one-is-earlier
 
--- "The search is to give the first clash." "When it answers clash, no clash comes before the one given.": the first 9 × V bytes are those of a filling g that
+-- "The search is to give the first clash." "When it answers clash, no clash comes before the one given.": the first 9 × V bytes are those of a filling that
 -- clashes, and before which none comes; later bytes are unchanged.
 pub record HandsOverTheFirst (b before after : List ℕ) : Type 0 where
   pub given : Substitution
-  pub clashes : Solves (sheetOf b) given
-  pub first : (g : Substitution) → Solves (sheetOf b) g → Earlier g given → ⊥
+  pub is-first : IsFirst (sheetOf b) given
   pub bytes : after ≡ encodeFilling given ++ drop (9 * length (sheetOf b .limits)) before
 
 -- no sheet has two such fillings
-pub first-is-one : (s : Sheet) (g h : Substitution) → Solves s g → Solves s h → ((k : Substitution) → Solves s k → Earlier k g → ⊥) → ((k : Substitution) → Solves s k → Earlier k h → ⊥) → g ≡ h
-first-is-one s g h p q none none′ = first-only s g p none ∙ sym (first-only s h q none′)
+pub first-is-one : (s : Sheet) (g h : Substitution) → IsFirst s g → IsFirst s h → g ≡ h
+first-is-one s g h p q = first-only s g p ∙ sym (first-only s h q)
 
 -- a field that stands in no template and counts in no rule is empty in it
-pub unasked-field-is-empty : (s : Sheet) (g : Substitution) → Solves s g → ((k : Substitution) → Solves s k → Earlier k g → ⊥)
-    → (f : ℕ) → Unasked s f → f < length (s .limits) → length (text g f) ≡ 0
+pub unasked-field-is-empty : (s : Sheet) (g : Substitution) → IsFirst s g → (f : ℕ) → Unasked s f → f < length (s .limits) → length (text g f) ≡ 0
 unasked-field-is-empty = unasked-empty
 
 module _ (b : List ℕ) (y : Bytes b) where
@@ -59,8 +57,7 @@ module _ (b : List ℕ) (y : Bytes b) where
     pub search-gives-the-first-clash : answer ≡ verdict true → HandsOverTheFirst b before after
     search-gives-the-first-clash e = record {
       given = firstSolution (sheetOf b);
-      clashes = clash-solves b before after (told e);
-      first = λ g h. none-before-first (sheetOf b) g h;
+      is-first = clash-first b before after (told e);
       bytes = clash-handed b before after (told e) y;
     }
 

@@ -14,7 +14,7 @@ use Rattle.model.specs.Sheet as sheet
 use Rattle.model.specs.Sheet.{Reading, read, Accepted, sheetOf}
 use Rattle.model.specs.Word.{Substitution, Solves}
 use Rattle.model.specs.Solvable.{solvable}
-use Rattle.model.specs.Order.{Earlier, firstSolution}
+use Rattle.model.specs.Order.{IsFirst, firstSolution}
 use Rattle.model.specs.Filling.{filling, encodeFilling, substitutionIn}
 use Rattle.calls.specs.Calls.{Answer, refused, finished, ofSheet, reading, verdict, checking, written, searchValues, searchingOf, searching, decision, following, Decides}
 use Rattle.calls.specs.Report.{report, refusedLine, apartLine, answerText, searchText, searchPrinted}
@@ -22,7 +22,7 @@ use Rattle.model.proofs.Reading.{read-prefix}
 use Rattle.model.proofs.Known.{accepted-in-range, accepted-counts}
 use Rattle.model.proofs.Fillings.{legal-sized, filling-reads}
 use Rattle.model.proofs.Solvable.{solvable-in, solvable-out, none-unsolvable}
-use Rattle.model.proofs.First.{first-solves, first-only}
+use Rattle.model.proofs.First.{first-is-first, first-only}
 use Rattle.calls.proofs.Passed.{verdict-same, solution-checks}
 use Rattle.calls.proofs.Operations.{not-finished, sheet-refused, sheet-accepted, sheet-finished, required}
 use Rattle.calls.proofs.Refusals.{not-zero, not-zero-require, not-zero-sheet}
@@ -100,12 +100,11 @@ module _ (b before : List ℕ) where
     pub search-apart : ((g : Substitution) → Solves (sheetOf b) g → ⊥) → Decides (searching b (length before)) before (verdict false) before
     search-apart none = rw (searching-finished b (length before) ok enough, none-unsolvable (sheetOf b) none) (refl, refl)
 
-    -- a solution that none comes before is the first
-    pub search-clash : Bytes b → (after : List ℕ) (g : Substitution) → Solves (sheetOf b) g → ((k : Substitution) → Solves (sheetOf b) k → Earlier k g → ⊥)
+    pub search-clash : Bytes b → (after : List ℕ) (g : Substitution) → IsFirst (sheetOf b) g
         → after ≡ encodeFilling g ++ drop (9 * length (sheetOf b .limits)) before → Decides (searching b (length before)) before (verdict true) after
-    search-clash y after g h none e =
-        let size = legal-sized (sheetOf b) g (accepted-in-range b y ok) (h .is-legal) in
-        rw (searching-finished b (length before) ok enough, solvable-in (sheetOf b) g h, sym (first-only (sheetOf b) g h none))
+    search-clash y after g first e =
+        let size = legal-sized (sheetOf b) g (accepted-in-range b y ok) (first .is-solution .is-legal) in
+        rw (searching-finished b (length before) ok enough, solvable-in (sheetOf b) g (first .is-solution), sym (first-only (sheetOf b) g first))
         (refl, e ∙ ap (λ n. encodeFilling g ++ drop n before) (sym size))
 
 -- What is known where the answer was clash: the sheet is accepted, the first 9 × V bytes are those of the first solution, which is one, and later ones are
@@ -117,12 +116,12 @@ module _ (b before after : List ℕ) (call : Decides (searching b (length before
   pub clash-accepted : Accepted b
   clash-accepted = told .accepted
 
-  pub clash-solves : Solves (sheetOf b) (firstSolution (sheetOf b))
-  clash-solves = let g = solvable-out (sheetOf b) (told .decided) in first-solves (sheetOf b) (g .0) (g .1)
+  pub clash-first : IsFirst (sheetOf b) (firstSolution (sheetOf b))
+  clash-first = let g = solvable-out (sheetOf b) (told .decided) in first-is-first (sheetOf b) (g .0) (g .1)
 
   module _ (y : Bytes b) where
     clash-sized : length (encodeFilling (firstSolution (sheetOf b))) ≡ 9 * length (sheetOf b .limits)
-    clash-sized = legal-sized (sheetOf b) (firstSolution (sheetOf b)) (accepted-in-range b y clash-accepted) (clash-solves .is-legal)
+    clash-sized = legal-sized (sheetOf b) (firstSolution (sheetOf b)) (accepted-in-range b y clash-accepted) (clash-first .is-solution .is-legal)
 
     pub clash-handed : after ≡ encodeFilling (firstSolution (sheetOf b)) ++ drop (9 * length (sheetOf b .limits)) before
     clash-handed =
@@ -134,7 +133,7 @@ module _ (b before after : List ℕ) (call : Decides (searching b (length before
     clash-taken = ap (take (9 * length (sheetOf b .limits))) clash-handed ∙ take-at (encodeFilling (firstSolution (sheetOf b))) _ _ clash-sized
 
     pub clash-checks : checking b (take (9 * length (sheetOf b .limits)) after) ≡ verdict true
-    clash-checks = ap (checking b) clash-taken ∙ solution-checks b y clash-accepted (firstSolution (sheetOf b)) clash-solves
+    clash-checks = ap (checking b) clash-taken ∙ solution-checks b y clash-accepted (firstSolution (sheetOf b)) (clash-first .is-solution)
 
 -- Where it was not, nothing was changed.
 pub apart-unchanged : (b before after : List ℕ) → Decides (searching b (length before)) before (verdict false) after → after ≡ before
@@ -168,7 +167,7 @@ module _ (b : List ℕ) where
   prints-clash y before after call =
       let s = sheetOf b in
       let ok = clash-accepted b before after call in
-      let first = clash-solves b before after call in
+      let first = clash-first b before after call .is-solution in
       let reads = ap (filling s) (clash-taken b before after call y) ∙ filling-reads s (firstSolution s) (accepted-in-range b y ok) (first .is-legal) in
       printed-accepted ok
       ∙ ap (λ u. pick u (report s (firstSolution s)) apartLine) (solvable-in s (firstSolution s) first)

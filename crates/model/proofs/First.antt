@@ -10,7 +10,7 @@ use Rattle.model.specs.Lists.{startsWith, same, each, from, all, keep, A
 use Rattle.model.specs.Sheet.{Sheet, row, times, sides, anEquation, aConstraint, walk, width, signed, opening, read, sheetIn}
 use Rattle.model.specs.Word.{Substitution, spell, Solves, weight, sameWord, equationHolds, constraintHolds, keeps, solves}
 use Rattle.model.specs.Solvable.{allTexts, substitutions, everyLegal}
-use Rattle.model.specs.Order.{totalLength, fieldLetters, ranks, Earlier, lex, earlier, earliest, earliestOf, firstSolution}
+use Rattle.model.specs.Order.{totalLength, fieldLetters, ranks, Earlier, IsFirst, lex, earlier, earliest, earliestOf, firstSolution}
 use Rattle.model.proofs.Computed.{P, sheet}
 use Rattle.model.proofs.Lists.{never, by-test, weaken}
 use Rattle.model.proofs.Keeping.{keep-out, keep-in}
@@ -96,7 +96,7 @@ module _ (s : Sheet) where
 
   -- where there is a solution, the first is one, and none comes before it
   module _ (g : Substitution) (h : Solves s g) where
-    pub first-solves : Solves s (firstSolution s)
+    first-solves : Solves s (firstSolution s)
     unfolding firstSolution All
     first-solves = by solutions all-solve (λ none. each-listed (λ _. ⊥) none g h)
       where
@@ -104,7 +104,7 @@ module _ (s : Sheet) where
         by [] ok some = absurd (some tt)
         by (x ∷ xs) ok some = earliest-one (Solves s) x xs (ok .0) (ok .1)
 
-    pub none-before-first : Earlier g (firstSolution s) → ⊥
+    none-before-first : Earlier g (firstSolution s) → ⊥
     unfolding firstSolution All
     none-before-first = each-listed (NotBefore (firstSolution s)) (by solutions all-solve) g h
       where
@@ -112,11 +112,17 @@ module _ (s : Sheet) where
         by [] ok = tt
         by (x ∷ xs) ok = earliest-none (length (s .limits)) x xs (ok .0 .is-legal .one-each) (weaken _ _ xs (λ y k. k .is-legal .one-each) (ok .1))
 
-    -- and it is the only one
-    pub first-only : ((k : Substitution) → Solves s k → Earlier k g → ⊥) → g ≡ firstSolution s
-    first-only none = by (earlier-compare g (firstSolution s) (h .is-legal .one-each ∙ sym (first-solves .is-legal .one-each)))
-      where
-        by : (g ≡ firstSolution s) ⊎ (Earlier g (firstSolution s) ⊎ Earlier (firstSolution s) g) → g ≡ firstSolution s
-        by (inl e) = e
-        by (inr (inl e)) = absurd (none-before-first e)
-        by (inr (inr e)) = absurd (none (firstSolution s) first-solves e)
+  pub first-is-first : (g : Substitution) → Solves s g → IsFirst s (firstSolution s)
+  first-is-first g h = record { is-solution = first-solves g h; none-before = none-before-first }
+
+  -- and it is the only one
+  pub first-only : (g : Substitution) → IsFirst s g → g ≡ firstSolution s
+  first-only g f = by (earlier-compare g (firstSolution s) (f .is-solution .is-legal .one-each ∙ sym (earliest-is .is-solution .is-legal .one-each)))
+    where
+      earliest-is : IsFirst s (firstSolution s)
+      earliest-is = first-is-first g (f .is-solution)
+
+      by : (g ≡ firstSolution s) ⊎ (Earlier g (firstSolution s) ⊎ Earlier (firstSolution s) g) → g ≡ firstSolution s
+      by (inl e) = e
+      by (inr (inl e)) = absurd (earliest-is .none-before g (f .is-solution) e)
+      by (inr (inr e)) = absurd (f .none-before (firstSolution s) (earliest-is .is-solution) e)

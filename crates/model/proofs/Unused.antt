@@ -12,7 +12,7 @@ use lib.Seq.{getD-set-same, getD-set-other}
 use Rattle.model.specs.Lists.{All}
 use Rattle.model.specs.Sheet.{Symbol, letter, field, Equation, Constraint, Sheet, coefficient}
 use Rattle.model.specs.Word.{Substitution, text, Admits, symbolWord, spell, EquationHolds, weight, ConstraintHolds, Solves}
-use Rattle.model.specs.Order.{totalLength, Earlier}
+use Rattle.model.specs.Order.{totalLength, IsFirst}
 use Rattle.model.proofs.Lists.{weaken, each-same}
 use Rattle.model.proofs.Words.{keeps-every}
 use Rattle.model.proofs.Order.{steps-earlier}
@@ -81,13 +81,12 @@ emptied-shorter [] f h = absurd (omega arith)
 emptied-shorter (t ∷ g) zero h = omega arith
 emptied-shorter (t ∷ g) (suc f) h = let less = emptied-shorter g f h in omega arith
 
-pub unasked-empty : (s : Sheet) (g : Substitution) → Solves s g → ((k : Substitution) → Solves s k → Earlier k g → ⊥)
-    → (f : ℕ) → Unasked s f → f < length (s .limits) → length (text g f) ≡ 0
-unasked-empty s g h none f u inside = by (ℕ-discrete (length (text g f)) 0)
+pub unasked-empty : (s : Sheet) (g : Substitution) → IsFirst s g → (f : ℕ) → Unasked s f → f < length (s .limits) → length (text g f) ≡ 0
+unasked-empty s g first f u inside = by (ℕ-discrete (length (text g f)) 0)
   where
     here : f < length g
-    here = let e = h .is-legal .one-each in omega arith
+    here = let e = first .is-solution .is-legal .one-each in omega arith
 
     by : Dec (length (text g f) ≡ 0) → length (text g f) ≡ 0
     by (yes e) = e
-    by (no n) = absurd (none (set g f []) (emptied-solves g f here s u h) (steps-earlier (set g f []) g (inl (emptied-shorter g f (omega arith)))))
+    by (no n) = absurd (first .none-before (set g f []) (emptied-solves g f here s u (first .is-solution)) (steps-earlier (set g f []) g (inl (emptied-shorter g f (omega arith)))))

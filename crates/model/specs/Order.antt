@@ -10,7 +10,7 @@ use lib.Dec.{ltb, eqb}
 use lib.ListN.{length}
 use Rattle.model.specs.Lists.{pick, each, keep}
 use Rattle.model.specs.Sheet.{Sheet}
-use Rattle.model.specs.Word.{Substitution, solves}
+use Rattle.model.specs.Word.{Substitution, Solves, solves}
 use Rattle.model.specs.Solvable.{everyLegal}
 
 -- Lexicographic order: the first number in which two lists differ is lower in the first list. (Of a list and a longer one that starts with it neither is
@@ -40,7 +40,12 @@ ranks g = totalLength g ∷ (fieldLengths g ++ fieldLetters g)
 abbrev pub Earlier : Substitution → Substitution → Type 0
 Earlier g h = Lex (ranks g) (ranks h)
 
--- the same as tests
+-- "When it answers clash, no clash comes before the one given.": g is a solution, and no solution comes before it
+pub record IsFirst (s : Sheet) (g : Substitution) : Type 0 where
+  pub is-solution : Solves s g
+  pub none-before : (h : Substitution) → Solves s h → Earlier h g → ⊥
+
+-- the order as a test
 unfoldable pub lex : List ℕ → List ℕ → Bool
 lex [] ys = false
 lex (x ∷ xs) [] = false

@@ -8,7 +8,7 @@ use lib.ListN.{take, drop}
 use borrow.Author.Needs.{needs}
 use borrow.Author.Tests.{not-true, not-false}
 use Rattle.model.specs.Sheet.{sheetOf}
-use Rattle.model.specs.Word.{Solves}
+use Rattle.model.specs.Order.{IsFirst}
 use Rattle.model.specs.Filling.{encodeFilling}
 use Rattle.model.proofs.Lists.{never}
 use Rattle.model.proofs.Words.{solves-in}
@@ -28,15 +28,15 @@ returns c =
     let start = at-solve .before .before .before in
     search-apart (start .args .sheet .now) (start .args .buf .now) (start .pre .0 .0) (start .pre .1) (at-solve .solve .ensures .none (not-true _ (c .if1 .taken)))
 
--- what is found holds a solution
+-- what is found holds the first solution
 abbrev start : tie.Else1 → tie.Start
 start c = c .before .before .before .before .before
 
 found-held : (c : tie.Else1) → Held (start c .args .sheet .now) (c .before .before .solve .result .substitution)
 found-held c = c .before .before .solve .ensures .held (not-false _ (c .if1 .left))
 
-found-solves : (c : tie.Else1) → Solves (sheetOf (start c .args .sheet .now)) (meaning (start c .args .sheet .now) (c .before .before .solve .result .substitution))
-found-solves c = c .before .before .solve .ensures .solved (not-false _ (c .if1 .left))
+found-first : (c : tie.Else1) → IsFirst (sheetOf (start c .args .sheet .now)) (meaning (start c .args .sheet .now) (c .before .before .solve .result .substitution))
+found-first c = c .before .before .solve .ensures .first (not-false _ (c .if1 .left))
 
 solves-requires : tie.Need-solves-requires
 solves-requires c κs = found-held (c .before)
@@ -45,7 +45,7 @@ returns-2 : tie.Need-returns-2
 returns-2 c =
     let found = c .before .before .before in
     let fails = sym (c .before .solves .ensures) ∙ not-true _ (c .if2 .taken) in
-    never (sym fails ∙ solves-in _ _ (found-solves found))
+    never (sym fails ∙ solves-in _ _ (found-first found .is-solution))
 
 fields-requires : tie.Need-fields-requires
 fields-requires c κs = search needs
@@ -70,8 +70,7 @@ returns-3 c =
     let buf = s .args .buf .now in
     let g = found .before .before .solve .result .substitution in
     let known = found .before .before .before .before .shared-slice-known in
-    search-clash b buf (s .pre .0 .0) (s .pre .1) (lent-bytes b (known .given)) (at-store .store .last .0) (meaning b g) (found-solves found)
-    (found .before .before .solve .ensures .first (not-false _ (found .if1 .left)))
+    search-clash b buf (s .pre .0 .0) (s .pre .1) (lent-bytes b (known .given)) (at-store .store .last .0) (meaning b g) (found-first found)
     (at-store .store .ensures ∙ ap (λ k. encodeFilling (take k (textsOf g)) ++ drop (9 * k) buf) (at-fields .fields .ensures))
 
 pub hand-over-spec : {M : Type 1} → statement M

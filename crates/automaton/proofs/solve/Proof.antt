@@ -18,7 +18,6 @@ returns c =
     let e = c .none .ensures in
     record {
       held = λ t. never (sym e ∙ t);
-      solved = λ t. never (sym e ∙ t);
       first = λ t. never (sym e ∙ t);
       none = λ _. c .before .before .some-lopsided .ensures (c .before .if1 .taken);
     }
@@ -38,8 +37,10 @@ returns-2 c =
     let b = start .args .sheet .now in
     record {
       held = c .find .ensures .held;
-      solved = λ e. answers-solve b (start .pre) (at .whole .result) (at .whole .ensures) _ (c .find .ensures .answer e);
-      first = λ e g h. c .find .ensures .earliest refl e g (solves-answers b (start .pre) (at .whole .result) (at .whole .ensures) g h);
+      first = λ e. record {
+        is-solution = answers-solve b (start .pre) (at .whole .result) (at .whole .ensures) _ (c .find .ensures .answer e);
+        none-before = λ g h. c .find .ensures .earliest refl e g (solves-answers b (start .pre) (at .whole .result) (at .whole .ensures) g h);
+      };
       none = λ e g h. c .find .ensures .none e g (solves-answers b (start .pre) (at .whole .result) (at .whole .ensures) g h);
     }
 
