@@ -1,17 +1,13 @@
 -- What a number that is returned tells of an answer, whatever the call: 0 where it has to be a finished answer, a length where values are written.
 -- Refusals count from 1, so that minus one of them is never 0 or more. Assumes nothing.
 use mathlib.Core.Path.{_≡_, refl, ap, _∙_}
-use mathlib.Core.List.{List, [], _∷_}
+use mathlib.Core.List.{[], _∷_}
 use Prim.Native.Nat.{ℕ, zero, suc, _≤_}
 use native.Mathlib.Omega.{arith}
 use lib.IntN.{pos, negℤ}
 use Rattle.calls.specs.Calls.{Answer, refused, finished, sized, unnumbered, decision}
-use Rattle.calls.proofs.Operations.{Sized}
+use Rattle.calls.proofs.Operations.{Finished, Sized}
 use Rattle.c_answer.specs.Returned.{returned, returnedNumber}
-
-pub record Finished (a : Answer) : Type 0 where
-  pub values : List ℕ
-  pub is : a ≡ finished values
 
 pub zero-finished : (a : Answer) → ((n : ℕ) → a ≡ refused n → 1 ≤ n) → returned a ≡ pos 0 → Finished a
 zero-finished (finished vs) h e = record { values = vs; is = refl }

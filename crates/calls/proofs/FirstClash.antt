@@ -4,7 +4,7 @@ use mathlib.Core.Path.{_≡_, sym, ap, _∙_}
 use mathlib.Core.Logic.{_⊎_, _↔_}
 use mathlib.Core.Bool.{true, false}
 use mathlib.Core.List.{List, _++_}
-use Prim.Native.Nat.{ℕ, _*_, _<_, _≤_}
+use Prim.Native.Nat.{ℕ, _*_, _≤_}
 use lib.ListN.{length, take, drop}
 use Rattle.model.specs.Lists.{Bytes}
 use Rattle.model.specs.Sheet.{Sheet, Accepted, sheetOf}
@@ -46,7 +46,7 @@ pub first-is-one : (s : Sheet) (g h : Substitution) → IsFirst s g → IsFirst 
 first-is-one s g h p q = first-only s g p ∙ sym (first-only s h q)
 
 -- a field that stands in no template and counts in no rule is empty in it
-pub unasked-field-is-empty : (s : Sheet) (g : Substitution) → IsFirst s g → (f : ℕ) → Unasked s f → f < length (s .limits) → length (text g f) ≡ 0
+pub unasked-field-is-empty : (s : Sheet) (g : Substitution) → IsFirst s g → (f : ℕ) → Unasked s f → length (text g f) ≡ 0
 unasked-field-is-empty = unasked-empty
 
 module _ (b : List ℕ) (y : Bytes b) where

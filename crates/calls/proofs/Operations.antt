@@ -132,6 +132,10 @@ module _ (b : List ℕ) (n room : ℕ) where
       writing-line h = sheet-accepted b _ ok ∙ rw (le-leb n (length (ids (sheetOf b))) inside, le-leb (length (line (sheetOf b) n)) room h)
 
 -- what an answer that is finished tells
+pub record Finished (a : Answer) : Type 0 where
+  pub values : List ℕ
+  pub is : a ≡ finished values
+
 pub same-values : {us vs : List ℕ} → finished us ≡ finished vs → us ≡ vs
 same-values e = cc
 

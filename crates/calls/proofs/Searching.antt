@@ -24,7 +24,7 @@ use Rattle.model.proofs.Fillings.{legal-sized, filling-reads}
 use Rattle.model.proofs.Solvable.{solvable-in, solvable-out, none-unsolvable}
 use Rattle.model.proofs.First.{first-is-first, first-only}
 use Rattle.calls.proofs.Passed.{verdict-same, solution-checks}
-use Rattle.calls.proofs.Operations.{not-finished, sheet-refused, sheet-accepted, sheet-finished, required}
+use Rattle.calls.proofs.Operations.{not-finished, sheet-refused, sheet-accepted, sheet-finished, required, Finished}
 use Rattle.calls.proofs.Refusals.{not-zero, not-zero-require, not-zero-sheet}
 
 -- The answer, by the first test that fails.
@@ -58,11 +58,7 @@ pub decision-refused : (a : Answer) {n : ℕ} → refused n ≡ decision a → a
 decision-refused (refused k) e = sym e
 decision-refused (finished vs) e = not-finished e
 
-record Values (a : Answer) : Type 0 where
-  values : List ℕ
-  is : a ≡ finished values
-
-decision-finished : (a : Answer) {vs : List ℕ} → finished vs ≡ decision a → Values a
+decision-finished : (a : Answer) {vs : List ℕ} → finished vs ≡ decision a → Finished a
 decision-finished (refused k) e = not-finished (sym e)
 decision-finished (finished vs) e = record { values = vs; is = refl }
 

@@ -14,6 +14,7 @@ use Rattle.model.specs.Sheet.{Sheet}
 use Rattle.model.specs.Word.{Substitution, text, Legal}
 use Rattle.model.specs.Order.{Lex, totalLength, fieldLengths, fieldLetters, Earlier}
 use Rattle.model.proofs.Lists.{by-test}
+use Rattle.model.proofs.Keeping.{total-head}
 use Rattle.model.proofs.Order.{lex-place, lex-parts, lex-first, lex-second, Steps, earlier-steps, steps-earlier}
 
 -- "the shorter field 0, field 1 and so on"
@@ -42,18 +43,13 @@ lengthSum g = total (length g) (λ f. length (text g f))
 abbrev pub ByFields : Substitution → Substitution → Type 0
 ByFields g h = (lengthSum g < lengthSum h) ⊎ ((lengthSum g ≡ lengthSum h) × (Shorter g h ⊎ (SameLengths g h × Lower g h)))
 
--- a sum, its first term split off; and that of the lengths is the total length, whatever is counted past the last field
-total-first : (k : ℕ) (h : ℕ → ℕ) → total (suc k) h ≡ h 0 + total k (λ i. h (suc i))
-unfolding total
-total-first zero h = omega arith
-total-first (suc k) h = let e = total-first k h in omega arith
-
+-- the sum of the lengths is the total length, whatever is counted past the last field
 pub total-lengths : (g : Substitution) (k : ℕ) → length g ≤ k → total k (λ f. length (text g f)) ≡ totalLength g
 unfolding total totalLength
 total-lengths [] zero h = refl
 total-lengths [] (suc k) h = let e = total-lengths [] k (omega arith) in omega arith
 total-lengths (t ∷ g) zero h = absurd (omega arith)
-total-lengths (t ∷ g) (suc k) h = total-first k (λ f. length (text (t ∷ g) f)) ∙ ap (λ n. length t + n) (total-lengths g k (omega arith))
+total-lengths (t ∷ g) (suc k) h = total-head k (λ f. length (text (t ∷ g) f)) ∙ ap (λ n. length t + n) (total-lengths g k (omega arith))
 
 sum-total : (g : Substitution) → lengthSum g ≡ totalLength g
 sum-total g = total-lengths g (length g) (omega arith)
@@ -73,6 +69,9 @@ length-at g f = List·getD-map length g f []
 above-none : (xs : List ℕ) (i n : ℕ) → n < getD xs i 0 → i < length xs
 above-none xs i n h = by-test (ltb i (length xs)) (λ e. ltb-true i (length xs) e) (λ e.
     let none = List·getD-eq-default xs 0 (ltb-false i (length xs) e) in absurd (omega arith))
+
+pub field-there : (g : Substitution) (f n : ℕ) → n < length (text g f) → f < length g
+field-there g f n h = let e = length-at g f in let k = above-none (fieldLengths g) f n (omega arith) in omega (arith, length-map g length)
 
 module _ (g h : Substitution) (sized : length g ≡ length h) where
   same-lengths : SameLengths g h → fieldLengths g ≡ fieldLengths h

@@ -282,7 +282,7 @@ module _ {A : Type 0} (p : A → Bool) (h : ℕ → A) where
       (λ t. or-right (p (h a)) (any-in (suc a) n i (lt-of-le-ne low (eqb-false a i t)) (omega arith) e))
 
 -- Totals.
-total-head : (n : ℕ) (h : ℕ → ℕ) → total (suc n) h ≡ h 0 + total n (λ i. h (suc i))
+pub total-head : (n : ℕ) (h : ℕ → ℕ) → total (suc n) h ≡ h 0 + total n (λ i. h (suc i))
 unfolding total
 total-head zero h = omega arith
 total-head (suc n) h = let before = total-head n h in omega arith

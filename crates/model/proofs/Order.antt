@@ -1,5 +1,5 @@
--- The order of substitutions (document 02, No. 1), computed, and its laws: its test decides it; none is earlier than itself; what is earlier than an earlier one is earlier; and
--- of two different substitutions of one sheet one is earlier. Assumes nothing.
+-- The order of substitutions (document 02, No. 1), computed, and its laws: its test decides it; none is earlier than itself; what is earlier than an earlier
+-- one is earlier; and of two different substitutions of one sheet one is earlier. Assumes nothing.
 use mathlib.Core.Path.{_≡_, refl, sym, ap, ap₂, subst, _∙_}
 use mathlib.Core.Bool.{true, not, _&&_}
 use mathlib.Core.List.{List, [], _∷_, _++_}

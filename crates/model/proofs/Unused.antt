@@ -16,6 +16,7 @@ use Rattle.model.specs.Order.{totalLength, IsFirst}
 use Rattle.model.proofs.Lists.{weaken, each-same}
 use Rattle.model.proofs.Words.{keeps-every}
 use Rattle.model.proofs.Order.{steps-earlier}
+use Rattle.model.proofs.ByFields.{field-there}
 
 -- field f stands in no place of a template
 abbrev pub Without : ℕ → List Symbol → Type 0
@@ -81,12 +82,11 @@ emptied-shorter [] f h = absurd (omega arith)
 emptied-shorter (t ∷ g) zero h = omega arith
 emptied-shorter (t ∷ g) (suc f) h = let less = emptied-shorter g f h in omega arith
 
-pub unasked-empty : (s : Sheet) (g : Substitution) → IsFirst s g → (f : ℕ) → Unasked s f → f < length (s .limits) → length (text g f) ≡ 0
-unasked-empty s g first f u inside = by (ℕ-discrete (length (text g f)) 0)
+pub unasked-empty : (s : Sheet) (g : Substitution) → IsFirst s g → (f : ℕ) → Unasked s f → length (text g f) ≡ 0
+unasked-empty s g first f u = by (ℕ-discrete (length (text g f)) 0)
   where
-    here : f < length g
-    here = let e = first .is-solution .is-legal .one-each in omega arith
-
     by : Dec (length (text g f) ≡ 0) → length (text g f) ≡ 0
     by (yes e) = e
-    by (no n) = absurd (first .none-before (set g f []) (emptied-solves g f here s u (first .is-solution)) (steps-earlier (set g f []) g (inl (emptied-shorter g f (omega arith)))))
+    by (no n) =
+        let some : 0 < length (text g f) = omega arith in
+        absurd (first .none-before (set g f []) (emptied-solves g f (field-there g f 0 some) s u (first .is-solution)) (steps-earlier (set g f []) g (inl (emptied-shorter g f some))))

@@ -2,7 +2,7 @@
 -- where there is no such vector nothing answers it. Assumes nothing.
 use mathlib.Core.Path.{_≡_, sym, ap, subst, _∙_}
 use mathlib.Core.Bool.{Bool, true, false}
-use mathlib.Core.List.{List, [], map}
+use mathlib.Core.List.{List, map}
 use mathlib.Core.Logic.{⊎-elim}
 use Prim.Native.Nat.{ℕ, _+_, _*_, _<_, _≤_}
 use native.Mathlib.Omega.{arith}
@@ -16,7 +16,7 @@ use Rattle.model.specs.Word.{Substitution, text, Legal, spell, EquationHolds, C
 use Rattle.model.proofs.Lists.{never, and-split, and-join, weaken, all-out, all-in}
 use Rattle.model.proofs.Words.{same-word-equal, constraint-out, constraint-in}
 use Rattle.model.specs.Order.{Earlier}
-use Rattle.model.proofs.ByFields.{SameLengths, earlier-by-fields}
+use Rattle.model.proofs.ByFields.{SameLengths, field-there, earlier-by-fields}
 use Rattle.formula.proofs.Small.{fields-few}
 use Rattle.fields.specs.declared.Field.{Field}
 use Rattle.fields.specs.Memory.{meaning, Held}
@@ -163,10 +163,7 @@ module _ (b : List ℕ) (ok : Admitted b) (a : Ask) (asking : Asking (sheetOf b)
     letter-low e i c =
         by-lt c (length (text found i))
         (λ m.
-        let inside : i < length (s .limits) = by-lt i (length (s .limits)) (λ k. k) (λ k.
-        let past : length found ≤ i = let z = held .legal .one-each in omega arith in
-        let none : length (text found i) ≡ 0 = ap length (List·getD-eq-default found [] past) in
-        absurd (omega arith)) in
+        let inside : i < length (s .limits) = omega (arith, field-there found i c m, held .legal .one-each) in
         let same = e i in
         let means = memory-means b ok g (h .is-legal) in
         let mine = letter-value b (r .substitution) held i c inside m in

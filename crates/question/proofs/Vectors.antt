@@ -1,18 +1,17 @@
 -- The order of substitutions, and the order of their length vectors: an earlier one has a sooner vector, or the same one and a lower letter. Assumes nothing.
-use mathlib.Core.Path.{_≡_, sym, ap, _∙_}
-use mathlib.Core.List.{List, []}
+use mathlib.Core.Path.{_≡_, sym, _∙_}
+use mathlib.Core.List.{List}
 use mathlib.Core.Logic.{_⊎_, inl, inr}
 use Prim.Native.Nat.{ℕ, _<_, _≤_}
 use native.Mathlib.Omega.{arith}
-use lib.ListN.{length, List·getD-eq-default}
+use lib.ListN.{length, getD}
 use Rattle.model.specs.Lists.{from, total}
 use Rattle.model.specs.Word.{Substitution, text}
-use Rattle.model.proofs.ByFields.{Shorter, Lower, SameLengths, lengthSum, ByFields, total-lengths}
-use Rattle.unification.proofs.Laws.{by-lt}
+use Rattle.model.proofs.ByFields.{Shorter, Lower, SameLengths, lengthSum, ByFields, total-lengths, field-there}
+use Rattle.model.proofs.Keeping.{total-same}
 use Rattle.inequalities.specs.Asked.{lengthsOf}
 use Rattle.inequalities.proofs.Asked.{lengths-at}
 use Rattle.bounds.specs.Bounds.{sumOf}
-use Rattle.bounds.proofs.Sums.{sum-grows}
 use Rattle.bounds.proofs.Widest.{Same}
 use Rattle.boxes.specs.Vectors.{Before, Sooner}
 
@@ -28,9 +27,7 @@ same-vectors g h e f k = lengths-at g f k ∙ e f ∙ sym (lengths-at h f k)
 module _ (g h : Substitution) (few : length g ≤ 6) (sized : length g ≡ length h) where
   before : Shorter g h → Before (lengthsOf g) (lengthsOf h)
   before k =
-      let inside : k .field < 6 = by-lt (k .field) (length h) (λ l. omega arith) (λ l.
-      let none : length (text h (k .field)) ≡ 0 = ap length (List·getD-eq-default h [] l) in
-      absurd (omega (arith, k .shorter))) in
+      let inside : k .field < 6 = omega (arith, field-there h (k .field) (length (text g (k .field))) (k .shorter)) in
       record {
         at = k .field;
         inside = inside;
@@ -46,10 +43,11 @@ module _ (g h : Substitution) (few : length g ≤ 6) (sized : length g ≡ lengt
 
 -- what comes sooner than a vector comes sooner than one of the same six lengths
 pub sooner-same : (m a b : List ℕ) → Same a b → Sooner m a → Sooner m b
+unfolding sumOf
 sooner-same m a b e k = by k
   where
     sums : sumOf a ≡ sumOf b
-    sums = let p = sum-grows a b (λ f h. let q = e f h in omega arith) in let q = sum-grows b a (λ f h. let q = e f h in omega arith) in omega arith
+    sums = total-same 6 (λ f. getD a f 0) (λ f. getD b f 0) e
 
     by : Sooner m a → Sooner m b
     by (inl l) = let q = sums in inl (omega arith)
