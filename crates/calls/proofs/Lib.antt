@@ -15,5 +15,6 @@ pub mod Ordered
 pub mod FirstRefusals
 pub mod Demands
 pub mod FirstClash
+pub mod TickedOff
 pub mod Listings
 pub mod Printing

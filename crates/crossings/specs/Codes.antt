@@ -4,7 +4,7 @@ use mathlib.Core.List.{List, [], _∷_, _++_}
 use Prim.Native.Nat.{ℕ, _+_, _-_, _*_, _≤_}
 use lib.Dec.{eqb}
 use Rattle.model.specs.Lists.{pick, each, upTo}
-use Rattle.formula.specs.Count.{Side, used, atLetter, atField}
+use Rattle.formula.specs.Kind.{Side, used, atLetter, atField}
 use Rattle.dimacs.specs.Codes.{codesLine, largeCode}
 use Rattle.matching.specs.Codes.{unlikeLine, matchLine}
 

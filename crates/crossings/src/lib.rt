@@ -9,7 +9,7 @@ use shape::USED;
 ghost use Prim.Native.Nat.{_+_, _<_, _≤_};
 ghost use lib.ListN.{length};
 ghost use Rattle.model.specs.Lists.{Puts};
-ghost use Rattle.formula.specs.Count.{SideIn};
+ghost use Rattle.formula.specs.Kind.{SideIn};
 ghost use Rattle.shape.specs.Bytes.{sideOf};
 ghost use Rattle.dimacs.specs.Codes.{largeCode};
 ghost use Rattle.crossings.specs.Codes.{pastLines, letterLines, openLines, crossLines, Crossed};

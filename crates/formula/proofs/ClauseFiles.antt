@@ -1,25 +1,28 @@
--- Clause files, computed: of some sheets every clause as numbers, how many variables and how many clauses there are; and of document 01's
+-- Clause files, computed: of some sheets every clause as numbers, how many variables, clauses and locations of each kind there are; and of document 01's
 -- sheet P the file's bytes. The numbers were worked out by another program from document 01 alone. Assumes nothing.
 use mathlib.Core.Path.{_≡_, refl}
 use mathlib.Core.List.{List, [], _∷_, map}
 use Prim.Native.Nat.{ℕ}
 use lib.IntN.{ℤ, pos, negℤ}
 use lib.ListN.{length}
-use Rattle.model.specs.Lists.{each, from, any, keep, total}
+use Rattle.model.specs.Lists.{each, from, upTo, any, keep, total}
 use Rattle.model.specs.Sheet.{letter, field, Sheet}
 use Rattle.model.specs.Cells.{cells}
 use Rattle.formula.specs.Clause.{terms, leftOut, literals, least, spread, sums, placeIds, locationIds, equationIds, constraintIds, listed, ids}
+use Rattle.formula.specs.Kind.{sameLetter, differentLetters, letterField, fieldLetter, twoFields, usedLetter, usedField, bothUsed, locationsOf}
+use Rattle.formula.specs.Count.{addedUp}
 use Rattle.formula.specs.Numbering.{kVariables, sVariables, tVariables, variables, number, clause}
 use Rattle.formula.specs.Dimacs.{digits, decimal, problemLine, clauseLine, line, file}
 
 abbrev pub minus : ℕ → ℤ
 minus n = negℤ (pos n)
 
--- a sheet, how many variables and clauses it has, and its clauses
+-- a sheet, how many variables and clauses it has, how many locations of each kind its equations have, in the order of document 02's No. 2, and its clauses
 pub record ClauseFile : Type 0 where
   pub sheet : Sheet
   pub variable-count : ℕ
   pub clause-count : ℕ
+  pub kinds : List (List ℕ)
   pub clauses : List (List ℤ)
 
 -- document 01's sheet P: "one field X of limit 1 against A"
@@ -33,6 +36,7 @@ clauseFiles =
       sheet = P;
       variable-count = 6;
       clause-count = 8;
+      kinds = (0 ∷ 0 ∷ 0 ∷ 1 ∷ 0 ∷ 1 ∷ 1 ∷ 1 ∷ []) ∷ [];
       clauses =
           (pos 1 ∷ pos 2 ∷ []) ∷ (minus 1 ∷ minus 2 ∷ []) ∷ (pos 3 ∷ []) ∷ (minus 3 ∷ minus 2 ∷ pos 5 ∷ [])
           ∷ (minus 3 ∷ pos 2 ∷ pos 6 ∷ []) ∷ (minus 4 ∷ minus 2 ∷ pos 6 ∷ []) ∷ (minus 4 ∷ pos 2 ∷ []) ∷ (minus 5 ∷ []) ∷ [];
@@ -47,6 +51,7 @@ clauseFiles =
       };
       variable-count = 27;
       clause-count = 46;
+      kinds = (0 ∷ 0 ∷ 0 ∷ 0 ∷ 2 ∷ 0 ∷ 3 ∷ 1 ∷ []) ∷ [];
       clauses =
           (pos 1 ∷ pos 2 ∷ pos 3 ∷ []) ∷ (minus 1 ∷ minus 2 ∷ []) ∷ (minus 1 ∷ minus 3 ∷ []) ∷ (minus 2 ∷ minus 3 ∷ [])
           ∷ (minus 3 ∷ pos 6 ∷ []) ∷ (pos 4 ∷ pos 5 ∷ pos 6 ∷ []) ∷ (minus 4 ∷ minus 5 ∷ []) ∷ (minus 4 ∷ minus 6 ∷ [])
@@ -75,6 +80,7 @@ clauseFiles =
       };
       variable-count = 12;
       clause-count = 23;
+      kinds = (1 ∷ 0 ∷ 1 ∷ 1 ∷ 1 ∷ 2 ∷ 2 ∷ 1 ∷ []) ∷ [];
       clauses =
           (pos 1 ∷ pos 2 ∷ pos 3 ∷ []) ∷ (minus 1 ∷ minus 2 ∷ []) ∷ (minus 1 ∷ minus 3 ∷ []) ∷ (minus 2 ∷ minus 3 ∷ [])
           ∷ (pos 4 ∷ []) ∷ (minus 4 ∷ minus 3 ∷ pos 5 ∷ []) ∷ (minus 4 ∷ pos 3 ∷ pos 8 ∷ []) ∷ (minus 4 ∷ pos 3 ∷ pos 1 ∷ [])
@@ -94,6 +100,7 @@ clauseFiles =
       };
       variable-count = 37;
       clause-count = 47;
+      kinds = (0 ∷ 0 ∷ 0 ∷ 0 ∷ 0 ∷ 0 ∷ 2 ∷ 1 ∷ []) ∷ (2 ∷ 4 ∷ 0 ∷ 0 ∷ 0 ∷ 5 ∷ 0 ∷ 1 ∷ []) ∷ [];
       clauses =
           (pos 1 ∷ pos 2 ∷ pos 3 ∷ pos 4 ∷ []) ∷ (minus 1 ∷ minus 2 ∷ []) ∷ (minus 1 ∷ minus 3 ∷ []) ∷ (minus 1 ∷ minus 4 ∷ [])
           ∷ (minus 2 ∷ minus 3 ∷ []) ∷ (minus 2 ∷ minus 4 ∷ []) ∷ (minus 3 ∷ minus 4 ∷ []) ∷ (minus 4 ∷ pos 8 ∷ [])
@@ -118,6 +125,7 @@ clauseFiles =
       };
       variable-count = 5;
       clause-count = 6;
+      kinds = (1 ∷ 0 ∷ 0 ∷ 0 ∷ 0 ∷ 2 ∷ 0 ∷ 1 ∷ []) ∷ [];
       clauses =
           (pos 1 ∷ []) ∷ (minus 1 ∷ pos 4 ∷ []) ∷ (minus 2 ∷ []) ∷ (minus 3 ∷ []) ∷ (pos 5 ∷ []) ∷ (minus 5 ∷ []) ∷ [];
     }
@@ -131,6 +139,7 @@ clauseFiles =
       };
       variable-count = 10;
       clause-count = 8;
+      kinds = (0 ∷ 0 ∷ 0 ∷ 0 ∷ 0 ∷ 0 ∷ 0 ∷ 1 ∷ []) ∷ [];
       clauses =
           (pos 1 ∷ pos 2 ∷ pos 3 ∷ []) ∷ (minus 1 ∷ minus 2 ∷ []) ∷ (minus 1 ∷ minus 3 ∷ []) ∷ (minus 2 ∷ minus 3 ∷ [])
           ∷ (pos 4 ∷ []) ∷ (pos 5 ∷ []) ∷ (minus 5 ∷ minus 3 ∷ pos 10 ∷ []) ∷ (minus 5 ∷ pos 3 ∷ pos 6 ∷ []) ∷ [];
@@ -145,6 +154,7 @@ clauseFiles =
       };
       variable-count = 28;
       clause-count = 39;
+      kinds = (0 ∷ 0 ∷ 0 ∷ 4 ∷ 0 ∷ 1 ∷ 4 ∷ 1 ∷ []) ∷ [];
       clauses =
           (pos 1 ∷ pos 2 ∷ pos 3 ∷ []) ∷ (minus 1 ∷ minus 2 ∷ []) ∷ (minus 1 ∷ minus 3 ∷ []) ∷ (minus 2 ∷ minus 3 ∷ [])
           ∷ (minus 3 ∷ pos 6 ∷ []) ∷ (pos 4 ∷ pos 5 ∷ pos 6 ∷ []) ∷ (minus 4 ∷ minus 5 ∷ []) ∷ (minus 4 ∷ minus 6 ∷ [])
@@ -169,6 +179,7 @@ clauseFiles =
       };
       variable-count = 9;
       clause-count = 10;
+      kinds = (2 ∷ 1 ∷ 0 ∷ 0 ∷ 0 ∷ 4 ∷ 0 ∷ 1 ∷ []) ∷ [];
       clauses =
           (pos 1 ∷ []) ∷ (minus 1 ∷ pos 6 ∷ []) ∷ (minus 2 ∷ pos 7 ∷ []) ∷ (minus 3 ∷ pos 8 ∷ []) ∷ (minus 3 ∷ []) ∷ (minus 4 ∷ [])
           ∷ (minus 5 ∷ []) ∷ (minus 6 ∷ []) ∷ (minus 7 ∷ []) ∷ (pos 9 ∷ []) ∷ [];
@@ -183,6 +194,7 @@ clauseFiles =
       };
       variable-count = 4;
       clause-count = 5;
+      kinds = (0 ∷ 0 ∷ 0 ∷ 0 ∷ 0 ∷ 1 ∷ 0 ∷ 1 ∷ []) ∷ [];
       clauses =
           (pos 1 ∷ []) ∷ (minus 1 ∷ []) ∷ (pos 3 ∷ []) ∷ (minus 3 ∷ pos 4 ∷ []) ∷ (minus 4 ∷ []) ∷ [];
     }
@@ -202,6 +214,21 @@ pub all-counts :
     map (λ (c : ClauseFile). length (ids (c .sheet))) clauseFiles ≡ map (λ (c : ClauseFile). c .clause-count) clauseFiles
 unfolding each from any keep cells terms leftOut least spread sums placeIds locationIds equationIds constraintIds listed ids
 all-counts = refl
+
+-- C as it is added up by hand, and the locations of each kind
+pub all-added-up :
+    map (λ (c : ClauseFile). addedUp (c .sheet)) clauseFiles ≡ map (λ (c : ClauseFile). c .clause-count) clauseFiles
+unfolding each from keep total cells least spread sums
+all-added-up = refl
+
+abbrev kindsOf : Sheet → ℕ → List ℕ
+kindsOf s p =
+    map (locationsOf s p) (sameLetter ∷ differentLetters ∷ letterField ∷ fieldLetter ∷ twoFields ∷ usedLetter ∷ usedField ∷ bothUsed ∷ [])
+
+pub all-kinds :
+    map (λ (c : ClauseFile). map (kindsOf (c .sheet)) (upTo (length (c .sheet .equations)))) clauseFiles ≡ map (λ (c : ClauseFile). c .kinds) clauseFiles
+unfolding each from total cells
+all-kinds = refl
 
 -- the clause program's nine lines for sheet P
 pub file-P : file P ≡

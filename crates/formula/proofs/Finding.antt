@@ -11,7 +11,8 @@ use Rattle.model.specs.Lists.{each, upTo, when, total}
 use Rattle.model.specs.Sheet.{Constraint, Sheet, limit, constraint}
 use Rattle.model.specs.Range.{WellFormed}
 use Rattle.formula.specs.Clause.{ClauseId, SomeValue, NotBoth, BlankTail, Start, Zero, Add, Bound, least, spread, placeIds, idAt, blank, fields, leftCells, rightCells, none, notBothIds}
-use Rattle.formula.specs.Count.{placeStart, equationStart, constraintStart, side, standing, notBothCount, placeCount, fieldCount, locationSize, rowCount, equationCount, stepCount, within, constraintCount, kClauses, sClauses}
+use Rattle.formula.specs.Kind.{side}
+use Rattle.formula.specs.Count.{placeStart, equationStart, constraintStart, standing, notBothCount, placeCount, fieldCount, locationSize, rowCount, equationCount, stepCount, within, constraintCount, kClauses, sClauses}
 use Rattle.model.proofs.Keeping.{length-map-from, map-from-at, total-const, total-fits, block-at, first-at, second-at}
 use Rattle.formula.proofs.Totals.{fieldPart, locationPart, rowPart, equationPart, sumPart, stepPart, boundPart, constraintPart, fieldParts, equationParts, constraintParts, ids-are, not-both-count, place-count, field-count, location-count, row-count, equation-count, sum-count, step-count, steps-count, constraint-count, fields-count, equations-count}
 

@@ -5,6 +5,7 @@ pub mod Named
 pub mod Valid
 pub mod Standing
 pub mod Totals
+pub mod Ticked
 pub mod Finding
 pub mod Numbering
 pub mod Small

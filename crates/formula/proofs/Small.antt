@@ -5,7 +5,7 @@ use mathlib.Core.List.{[]}
 use Prim.Native.Nat.{ℕ, zero, suc, _+_, _-_, _*_, _<_, _≤_}
 use native.Mathlib.Nat.{mul-le-mul}
 use native.Mathlib.Omega.{arith}
-use lib.Dec.{ltb, eqb}
+use lib.Dec.{ltb}
 use lib.IntN.{ℤ, pos, negsuc, natAbs}
 use lib.ListN.{length, List·getD-eq-default}
 use borrow.Author.Tests.{ltb-true, ltb-false}
@@ -14,7 +14,8 @@ use Rattle.model.specs.Sheet.{Sheet, limit, equation, constraint, coefficient}
 use Rattle.model.specs.Range.{ConstraintIn, InRange}
 use Rattle.formula.specs.Clause.{lowest, least, spread, blank, fields, leftCells, rightCells}
 use Rattle.formula.specs.Numbering.{kSize, sSize, rowSize, tSize, kCount, sCount, tCount, variableCount}
-use Rattle.formula.specs.Count.{Side, used, atLetter, atField, side, locationCount, notBothCount, placeCount, fieldCount, locationSize, rowCount, equationCount, stepCount, constraintCount, kClauses, sClauses, clauseCount, Section, ofFields, ofEquations, ofConstraints, parts, variableCounts}
+use Rattle.formula.specs.Kind.{Kind, sameLetter, differentLetters, letterField, fieldLetter, twoFields, usedLetter, usedField, bothUsed, kindCount, kindAt}
+use Rattle.formula.specs.Count.{notBothCount, placeCount, fieldCount, locationSize, rowCount, equationCount, stepCount, constraintCount, kClauses, sClauses, clauseCount, Section, ofFields, ofEquations, ofConstraints, parts, variableCounts}
 use Rattle.model.proofs.Lists.{by-test, at}
 use Rattle.model.proofs.Keeping.{total-const}
 use Rattle.model.proofs.Values.{cells-width}
@@ -50,16 +51,15 @@ lowest-small (pos a) n h l = omega arith
 lowest-small (negsuc a) n h l = product-small (negsuc a) n h l
 
 -- the clauses of a location
-pub location-few : (l : ℕ) (a b : Side) → locationCount l a b ≤ l + 3
-location-few l used used = omega arith
-location-few l used (atLetter b) = omega arith
-location-few l used atField = omega arith
-location-few l (atLetter a) used = omega arith
-location-few l (atLetter a) (atLetter b) = by-test (eqb a b) (λ e. rw e (omega arith)) (λ e. rw e (omega arith))
-location-few l (atLetter a) atField = omega arith
-location-few l atField used = omega arith
-location-few l atField (atLetter b) = omega arith
-location-few l atField atField = omega arith
+kind-few : (l : ℕ) (k : Kind) → kindCount l k ≤ l + 3
+kind-few l sameLetter = omega arith
+kind-few l differentLetters = omega arith
+kind-few l letterField = omega arith
+kind-few l fieldLetter = omega arith
+kind-few l twoFields = omega arith
+kind-few l usedLetter = omega arith
+kind-few l usedField = omega arith
+kind-few l bothUsed = omega arith
 
 one-or-none : (b : Bool) → pick b 1 0 ≤ 1
 one-or-none true = omega arith
@@ -185,7 +185,7 @@ module _ (s : Sheet) (ok : InRange s) where
       let n : suc (length (rightCells s p)) ≤ 25 = omega (arith, c .1) in
       let h = total-small (suc (length (leftCells s p))) 25 275 (rowCount s p) m (λ i _.
       total-small (suc (length (rightCells s p))) 25 11 (locationSize s p i) n (λ j _.
-      let q = location-few (blank s) (side (leftCells s p) i) (side (rightCells s p) j) in
+      let q = kind-few (blank s) (kindAt s p i j) in
       let k = letters-few in
       omega arith)) in
       omega arith)

@@ -12,7 +12,8 @@ use Rattle.model.specs.Sheet.{Sheet}
 use Rattle.model.specs.Range.{WellFormed}
 use Rattle.model.specs.Cells.{Cell, letter, place}
 use Rattle.formula.specs.Clause.{Term, holds, lacks, isBlank, notBlank, only, ClauseId, Left, Right, Both, Match, End, terms, sure, leftOut, stays, locationIds, blank, cell, leftCells, rightCells}
-use Rattle.formula.specs.Count.{SideIn, Side, used, atLetter, atField, cellSide, side, standing, locationCount}
+use Rattle.formula.specs.Kind.{SideIn, Side, used, atLetter, atField, cellSide, side}
+use Rattle.formula.specs.Count.{standing, locationCount}
 use Rattle.model.proofs.Lists.{by-test, and-split, at, or-false}
 use Rattle.formula.proofs.Valid.{CellIn, cell-in}
 use Rattle.model.proofs.Keeping.{from-in, below-in, length-from, keep-append, keep-map, keep-when, keep-yes, keep-no, keep-all, keep-none, keep-below, keep-around, keep-one}

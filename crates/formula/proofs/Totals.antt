@@ -14,7 +14,8 @@ use Rattle.model.specs.Lists.{pick, each, from, upTo, any, when, keep, total}
 use Rattle.model.specs.Sheet.{Constraint, Sheet, limit, constraint}
 use Rattle.model.specs.Range.{WellFormed}
 use Rattle.formula.specs.Clause.{K, Literal, is, isnt, unknown, ClauseId, SomeValue, NotBoth, BlankTail, Start, Zero, Add, Bound, terms, sure, leftOut, least, spread, sums, placeIds, locationIds, equationIds, constraintIds, listed, stays, ids, blank, fields, leftCells, rightCells, notBothIds, addIds}
-use Rattle.formula.specs.Count.{side, standing, notBothCount, placeCount, fieldCount, locationSize, rowCount, equationCount, stepCount, atMost, within, constraintCount, kClauses, sClauses, clauseCount}
+use Rattle.formula.specs.Kind.{side}
+use Rattle.formula.specs.Count.{standing, notBothCount, placeCount, fieldCount, locationSize, rowCount, equationCount, stepCount, atMost, within, constraintCount, kClauses, sClauses, clauseCount}
 use Rattle.model.proofs.Lists.{by-test, append-in}
 use Rattle.model.proofs.Keeping.{one-in, map-from-in, loop-in, map-map, each-map, each-when, length-map-from, keep-append, keep-map, keep-yes, keep-below, keep-all, keep-above, keep-loop, loop-same, total-const, total-same, length-loop}
 use Rattle.formula.proofs.Named.{place-in}

@@ -5,10 +5,11 @@ use Prim.Native.Nat.{ℕ, suc, _+_, _-_, _*_, _<_, _≤_}
 use lib.Dec.{ltb, eqb}
 use lib.IntN.{ℤ, pos, negsuc, _-ℤ_}
 use lib.ListN.{length}
-use Rattle.model.specs.Lists.{pick, from, upTo, total}
+use lib.Signed.{ltZ}
+use Rattle.model.specs.Lists.{pick, from, upTo, keep, total}
 use Rattle.model.specs.Sheet.{Constraint, Sheet, limit, constraint}
-use Rattle.model.specs.Cells.{Cell, letter, place}
-use Rattle.formula.specs.Clause.{ClauseId, SomeValue, NotBoth, BlankTail, Start, Left, Right, Both, Match, End, Zero, Add, Bound, least, spread, blank, fields, cell, leftCells, rightCells}
+use Rattle.formula.specs.Clause.{ClauseId, SomeValue, NotBoth, BlankTail, Start, Left, Right, Both, Match, End, Zero, Add, Bound, least, spread, sums, blank, fields, leftCells, rightCells}
+use Rattle.formula.specs.Kind.{Side, used, atLetter, atField, side, kind, kindCount, locationsOf, ticked}
 use Rattle.formula.specs.Numbering.{PlaceIn, LocationIn, SumIn, kSize, sSize, tSize}
 
 -- Which names there are: their ranges.
@@ -26,25 +27,6 @@ IdIn s (Zero r) = r < length (s .constraints)
 IdIn s (Add r k n d) = (r < length (s .constraints)) × (k < fields s) × SumIn s (constraint s r) k n × (d ≤ limit s k)
 IdIn s (Bound r n) = (r < length (s .constraints)) × SumIn s (constraint s r) (fields s) n
 
--- What one side of a location has: nothing left, a letter, or a place of a field.
-pub data Side : Type 0 where
-  used : Side
-  atLetter : ℕ → Side
-  atField : Side
-
-abbrev pub cellSide : Cell → Side
-cellSide (letter a) = atLetter a
-cellSide (place f c) = atField
-
-abbrev pub side : List Cell → ℕ → Side
-side us i = pick (ltb i (length us)) (cellSide (cell us i)) used
-
--- a letter is one of l
-abbrev pub SideIn : ℕ → Side → Type 0
-SideIn l used = Unit
-SideIn l (atLetter a) = a < l
-SideIn l atField = Unit
-
 -- The clauses of location (i, j) of equation p that are not left out, with l letters.
 abbrev pub standing : ℕ → ℕ → ℕ → ℕ → Side → Side → List ClauseId
 standing l p i j used used = []
@@ -57,17 +39,9 @@ standing l p i j atField used = Left p i j ∷ End p i j ∷ []
 standing l p i j atField (atLetter b) = Left p i j ∷ Both p i j ∷ map (Match p i j) (upTo b ++ from (suc b) (l - suc b))
 standing l p i j atField atField = Left p i j ∷ Right p i j ∷ Both p i j ∷ map (Match p i j) (upTo l)
 
--- how many they are
+-- how many they are: those of the location's kind
 abbrev pub locationCount : ℕ → Side → Side → ℕ
-locationCount l used used = 0
-locationCount l used (atLetter b) = 1
-locationCount l used atField = 2
-locationCount l (atLetter a) used = 1
-locationCount l (atLetter a) (atLetter b) = pick (eqb a b) 1 2
-locationCount l (atLetter a) atField = 3
-locationCount l atField used = 2
-locationCount l atField (atLetter b) = l + 1
-locationCount l atField atField = l + 3
+locationCount l u v = kindCount l (kind u v)
 
 -- Of a place of a field: the pairs of two values, and all of place c of a field with limit n; of field f.
 abbrev pub notBothCount : ℕ → ℕ
@@ -113,6 +87,16 @@ sClauses s = total (length (s .equations)) (equationCount s)
 
 unfoldable pub clauseCount : Sheet → ℕ
 clauseCount s = kClauses s + (sClauses s + total (length (s .constraints)) (constraintCount s))
+
+-- C as it is added up by hand: the places of all fields; for each equation 1 for S(p,0,0), and its locations by their kinds; for each constraint 1
+-- for T(r,0,0), its steps, which are as many as sums times lengths, and its final sums above the limit.
+abbrev pub addedUp : Sheet → ℕ
+addedUp s =
+    total (fields s) (λ f. total (limit s f) (placeCount (blank s) (limit s f)))
+    + (total (length (s .equations)) (λ p. 1 + ticked (locationsOf s p) (kindCount (blank s)))
+    + total (length (s .constraints)) (λ r. 1
+    + (total (fields s) (λ k. length (sums s (constraint s r) k) * suc (limit s k))
+    + length (keep (ltZ (constraint s r .most)) (sums s (constraint s r) (fields s))))))
 
 -- The clauses before those of place c of field f, of equation p, of constraint r.
 abbrev pub placeStart : Sheet → ℕ → ℕ → ℕ

@@ -10,7 +10,8 @@ use Rattle.model.specs.Lists.{pick, from, upTo, total}
 use Rattle.model.specs.Sheet.{Sheet}
 use Rattle.model.specs.Range.{InRange}
 use Rattle.formula.specs.Clause.{ClauseId, Start, Left, Both, Match, idAt, blank, leftCells, rightCells, none}
-use Rattle.formula.specs.Count.{Side, used, atLetter, atField, SideIn, side, standing, locationCount, locationSize, rowCount, equationStart}
+use Rattle.formula.specs.Kind.{Side, used, atLetter, atField, SideIn, side}
+use Rattle.formula.specs.Count.{standing, locationCount, locationSize, rowCount, equationStart}
 use Rattle.model.proofs.Lists.{by-test}
 use Rattle.model.proofs.Keeping.{length-map-from, map-from-at, map-append, first-at, second-at, total-more, total-none}
 use Rattle.formula.proofs.Small.{cells-small}

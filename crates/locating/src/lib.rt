@@ -12,7 +12,8 @@ ghost use Rattle.model.specs.Lists.{total};
 ghost use Rattle.model.specs.Sheet.{sheetOf};
 ghost use Rattle.model.specs.Range.{Admitted};
 ghost use Rattle.formula.specs.Clause.{none, idAt, leftCells, rightCells};
-ghost use Rattle.formula.specs.Count.{atField, SideIn, standing, locationCount, rowCount, equationCount, equationStart};
+ghost use Rattle.formula.specs.Kind.{atField, SideIn};
+ghost use Rattle.formula.specs.Count.{standing, locationCount, rowCount, equationCount, equationStart};
 ghost use Rattle.shape.specs.Bytes.{sideBytes, sideOf};
 ghost use Rattle.literals.specs.Name.{nameOf};
 

@@ -13,7 +13,8 @@ use Rattle.model.specs.Sheet.{Sheet}
 use Rattle.model.specs.Cells.{Cell, letter, place}
 use Rattle.formula.specs.Clause.{K, S, ClauseId, Left, Right, Both, Match, End, terms, blank, cell, leftCells, rightCells}
 use Rattle.formula.specs.Numbering.{number}
-use Rattle.formula.specs.Count.{Side, used, atLetter, atField, cellSide, side, standing}
+use Rattle.formula.specs.Kind.{Side, used, atLetter, atField, cellSide, side}
+use Rattle.formula.specs.Count.{standing}
 use Rattle.model.proofs.Lists.{by-test, each-append}
 use Rattle.model.proofs.Keeping.{each-map, loop-same}
 use Rattle.model.proofs.Pieces.{each-from}

@@ -13,7 +13,7 @@ use Rattle.model.specs.Range.{InRange}
 use Rattle.model.specs.Cells.{Cell, letter, place, cells}
 use Rattle.formula.specs.Clause.{K, S, blank, cell, leftCells, rightCells}
 use Rattle.formula.specs.Numbering.{number}
-use Rattle.formula.specs.Count.{side}
+use Rattle.formula.specs.Kind.{side}
 use Rattle.model.proofs.Lists.{by-test}
 use Rattle.model.proofs.Keeping.{map-from-at, loop-same}
 use Rattle.formula.proofs.Numbering.{number-small}

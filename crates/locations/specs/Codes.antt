@@ -3,7 +3,7 @@ use mathlib.Core.List.{List}
 use Prim.Native.Nat.{ℕ, _+_, _*_, _<_, _≤_}
 use lib.ListN.{getD}
 use Rattle.model.specs.Lists.{each, upTo}
-use Rattle.formula.specs.Count.{SideIn}
+use Rattle.formula.specs.Kind.{SideIn}
 use Rattle.shape.specs.Bytes.{sideOf}
 use Rattle.dimacs.specs.Codes.{mostCode}
 use Rattle.crossings.specs.Codes.{crossLines}

@@ -5,7 +5,8 @@ use lib.ListN.{length}
 use Rattle.model.specs.Lists.{each, upTo}
 use Rattle.model.specs.Sheet.{Sheet}
 use Rattle.formula.specs.Clause.{ClauseId, Start, blank, leftCells, rightCells}
-use Rattle.formula.specs.Count.{side, standing}
+use Rattle.formula.specs.Kind.{side}
+use Rattle.formula.specs.Count.{standing}
 use Rattle.literals.specs.Name.{lineOf}
 
 -- the lines of several clauses

@@ -11,7 +11,7 @@ use Rattle.model.specs.Sheet.{Sheet, template}
 use Rattle.model.specs.Range.{InRange}
 use Rattle.model.specs.Cells.{Cell, letter, place, cells}
 use Rattle.formula.specs.Clause.{cell}
-use Rattle.formula.specs.Count.{used, atLetter, atField, cellSide, side}
+use Rattle.formula.specs.Kind.{used, atLetter, atField, cellSide, side}
 use Rattle.model.proofs.Lists.{by-test, at}
 use Rattle.model.proofs.Keeping.{map-at, second-at}
 use Rattle.formula.proofs.Small.{letters-few, fields-few, limit-small}

@@ -5,7 +5,7 @@ use lib.Dec.{ltb, eqb}
 use lib.ListN.{length, drop, replicate}
 use Rattle.model.specs.Lists.{pick}
 use Rattle.model.specs.Cells.{Cell, letter, place}
-use Rattle.formula.specs.Count.{Side, used, atLetter, atField}
+use Rattle.formula.specs.Kind.{Side, used, atLetter, atField}
 
 abbrev pub cellByte : Cell → ℕ
 cellByte (letter a) = a

@@ -6,7 +6,7 @@ use native.Mathlib.Omega.{arith}
 use lib.ListN.{length}
 use borrow.Author.Needs.{needs}
 use Rattle.model.specs.Lists.{Puts}
-use Rattle.formula.specs.Count.{Side}
+use Rattle.formula.specs.Kind.{Side}
 use Rattle.shape.specs.Bytes.{sideOf}
 use Rattle.shape.proofs.Sides.{says-used, says-letter, says-field}
 use Rattle.crossings.specs.Codes.{crossLines}

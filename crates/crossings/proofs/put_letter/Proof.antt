@@ -7,7 +7,7 @@ use lib.Dec.{eqb}
 use borrow.Author.Needs.{needs}
 use borrow.Author.Tests.{eq-eqb, ne-eqb}
 use Rattle.model.specs.Lists.{pick}
-use Rattle.formula.specs.Count.{Side}
+use Rattle.formula.specs.Kind.{Side}
 use Rattle.model.proofs.Seams.{nothing}
 use Rattle.shape.specs.Bytes.{sideOf}
 use Rattle.shape.proofs.Sides.{says-used, says-letter, says-field}

@@ -6,7 +6,7 @@ use native.Mathlib.Omega.{arith}
 use lib.ListN.{length, length-append}
 use borrow.Author.Needs.{needs}
 use Rattle.model.specs.Lists.{each, upTo}
-use Rattle.formula.specs.Count.{Side, used, atLetter, atField, SideIn}
+use Rattle.formula.specs.Kind.{Side, used, atLetter, atField, SideIn}
 use Rattle.shape.specs.Bytes.{sideOf}
 use Rattle.shape.proofs.Sides.{says-used, says-letter, says-field}
 use Rattle.dimacs.specs.Codes.{codesLine}

@@ -5,7 +5,7 @@ use Prim.Native.Nat.{ℕ, _+_, _*_}
 use native.Mathlib.Omega.{arith}
 use borrow.Author.Needs.{needs}
 use Rattle.model.specs.Lists.{Puts}
-use Rattle.formula.specs.Count.{Side}
+use Rattle.formula.specs.Kind.{Side}
 use Rattle.model.proofs.Seams.{nothing}
 use Rattle.shape.specs.Bytes.{sideOf}
 use Rattle.shape.proofs.Sides.{says-used, says-letter, says-field}

@@ -5,7 +5,8 @@ use native.Mathlib.Omega.{arith}
 use lib.ListN.{getD}
 use borrow.Author.Needs.{needs}
 use Rattle.formula.specs.Clause.{ClauseId, Match, none}
-use Rattle.formula.specs.Count.{Side, atLetter, atField, SideIn, standing, locationCount}
+use Rattle.formula.specs.Kind.{Side, atLetter, atField, SideIn}
+use Rattle.formula.specs.Count.{standing, locationCount}
 use Rattle.shape.specs.Bytes.{sideOf}
 use Rattle.shape.proofs.Sides.{says-letter, says-field}
 use Rattle.locating.proofs.Laws.{found, found-at, left-first, letter-before, letter-after, letter-any}

@@ -5,7 +5,8 @@ use native.Mathlib.Omega.{arith}
 use lib.ListN.{getD}
 use borrow.Author.Needs.{needs}
 use Rattle.formula.specs.Clause.{ClauseId, Match, none}
-use Rattle.formula.specs.Count.{Side, used, atLetter, atField, standing, locationCount}
+use Rattle.formula.specs.Kind.{Side, used, atLetter, atField}
+use Rattle.formula.specs.Count.{standing, locationCount}
 use Rattle.shape.specs.Bytes.{sideOf}
 use Rattle.shape.proofs.Sides.{says-used, says-letter, says-field}
 use Rattle.locating.proofs.Laws.{right-field, found, found-at, letters-differ}
