@@ -1,0 +1,2 @@
+pub mod Name
+pub mod Census
