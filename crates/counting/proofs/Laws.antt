@@ -4,16 +4,22 @@ use mathlib.Core.List.{List}
 use Prim.Native.Nat.{ℕ, suc, _+_, _-_, _*_, _<_, _≤_}
 use native.Mathlib.Omega.{arith}
 use lib.ListN.{length, getD}
+use borrow.Author.Tests.{lt-ltb, le-ltb}
 use Rattle.model.specs.Lists.{total}
 use Rattle.model.specs.Sheet.{Sheet, limit, constraint}
 use Rattle.model.specs.Range.{InRange}
-use Rattle.formula.specs.Clause.{blank, fields, leftCells, rightCells, spread, ids}
+use Rattle.model.specs.Cells.{Cell, letter, place}
+use Rattle.formula.specs.Clause.{blank, fields, cell, leftCells, rightCells, spread, ids}
+use Rattle.formula.specs.Kind.{used, cellSide, side}
 use Rattle.formula.specs.Count.{locationCount, notBothCount, placeCount, fieldCount, locationSize, rowCount, equationCount, stepCount, within, constraintCount, kClauses, sClauses, clauseCount}
 use Rattle.model.proofs.Keeping.{total-none, total-same}
 use Rattle.formula.proofs.Small.{cells-small}
 use Rattle.formula.proofs.Totals.{field-total, clause-count}
 use Rattle.shape.specs.Bytes.{sideBytes, sideOf}
 use Rattle.shape.proofs.Sides.{side-at}
+use Rattle.kinds.specs.Census.{Taken, Counted, Surveyed, rowOf}
+use Rattle.kinds.specs.declared.Census.{Census}
+use Rattle.kinds.proofs.Laws.{counted-few, letter-below, row-counted}
 use Rattle.model.proofs.Templates.{well-formed}
 
 -- the clauses of a field with no place, and with some
@@ -25,16 +31,46 @@ module _ (s : Sheet) (f : ℕ) (n : ℕ) (is : n ≡ limit s f) where
   field-some z l p el ep =
       ap₂ (λ x y. x * (2 + y)) is (ep ∙ ap notBothCount el) ∙ sym (field-total (blank s) (limit s f) (omega arith))
 
--- A row of locations by the bytes of both sides, and the clauses of an equation.
-module _ (s : Sheet) (ok : InRange s) (p : ℕ) (h : p < length (s .equations)) where
-  pub row-known : (i : ℕ) → i ≤ 24 → (l n : ℕ) (left right : List ℕ) → l ≡ blank s → n ≡ length (rightCells s p)
-      → left ≡ sideBytes (leftCells s p) → right ≡ sideBytes (rightCells s p)
-      → total (suc n) (λ j. locationCount l (sideOf (getD left i 0)) (sideOf (getD right j 0))) ≡ rowCount s p i
-  row-known i k l n left right el en ea eb =
-      let few = cells-small s ok p h .1 in
-      rw (el, en, ea, eb)
-      (total-same (suc (length (rightCells s p))) _ (locationSize s p i) (λ j m.
-      ap₂ (locationCount (blank s)) (side-at s ok p h 0 i k) (side-at s ok p h 1 j (omega arith))))
+-- The right side of an equation by its bytes: the first are cells, and past them the template is used up. So a census of them gives the rows.
+not-past : (u : Cell) → cellSide u ≡ used → ⊥
+not-past (letter a) e = let z : _≡_ {A = ℕ} 0 1 = cc in omega arith
+not-past (place f c) e = let z : _≡_ {A = ℕ} 0 1 = cc in omega arith
+
+module _ (s : Sheet) (ok : InRange s) (p : ℕ) (h : p < length (s .equations)) (right : List ℕ) (er : right ≡ sideBytes (rightCells s p)) where
+  right-is : (j : ℕ) → j ≤ 24 → sideOf (getD right j 0) ≡ side (rightCells s p) j
+  right-is j k = ap (λ b. sideOf (getD b j 0)) er ∙ side-at s ok p h 1 j k
+
+  module _ (n : ℕ) (en : n ≡ length (rightCells s p)) where
+    pub right-taken : Taken right n
+    right-taken j k e =
+        let few = cells-small s ok p h .1 in
+        let there = lt-ltb j (length (rightCells s p)) (omega arith) in
+        let at : side (rightCells s p) j ≡ used = sym (right-is j (omega arith)) ∙ e in
+        not-past (cell (rightCells s p) j) (rw there at at)
+
+    right-past : sideOf (getD right n 0) ≡ used
+    right-past =
+        let few = cells-small s ok p h .1 in
+        right-is n (omega arith) ∙ rw (le-ltb n (length (rightCells s p)) (omega arith))
+
+    pub surveyed : (l : ℕ) → l ≡ blank s → (c : Census) → Counted l right n c → Surveyed s p c
+    surveyed l el c d =
+        let few = cells-small s ok p h .1 in
+        let letters = ok .counts-in .of-letters in
+        record {
+          few = counted-few l right (omega arith) n (omega arith) c d .0;
+          rows = λ i k.
+              let u : ℕ = getD (sideBytes (leftCells s p)) i 0 in
+              ap (λ b. rowOf b (sideOf u) c) (sym el)
+              ∙ row-counted l right n c d right-taken right-past (sideOf u) (letter-below u)
+              ∙ rw (el, en) (total-same (suc (length (rightCells s p))) _ (locationSize s p i) (λ j m.
+              ap₂ (locationCount (blank s)) (side-at s ok p h 0 i k) (right-is j (omega arith))));
+        }
+
+-- the row with left cell i
+pub row-found : (s : Sheet) (p : ℕ) (c : Census) → Surveyed s p c → (l : ℕ) (left : List ℕ) → l ≡ blank s → left ≡ sideBytes (leftCells s p)
+    → (i : ℕ) → i ≤ 24 → rowOf l (sideOf (getD left i 0)) c ≡ rowCount s p i
+row-found s p c h l left el ea i k = ap₂ (λ b x. rowOf b (sideOf (getD x i 0)) c) el ea ∙ h .rows i k
 
 pub equation-known : (s : Sheet) (p : ℕ) → equationCount s p ≡ 1 + total (suc (length (leftCells s p))) (rowCount s p)
 unfolding equationCount

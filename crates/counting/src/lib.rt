@@ -1,19 +1,17 @@
 // How many clauses an accepted sheet has, part by part.
-use shape::FIRST_PLACE;
-use shape::ROOM;
+use kinds::Census;
 use shape::Section;
-use shape::USED;
 ghost use mathlib.Core.Path.{_≡_};
-ghost use Prim.Native.Nat.{suc, _<_, _≤_};
-ghost use lib.ListN.{length, getD};
+ghost use Prim.Native.Nat.{_<_, _≤_};
+ghost use lib.ListN.{length};
 ghost use Rattle.model.specs.Lists.{total};
 ghost use Rattle.model.specs.Sheet.{sheetOf};
 ghost use Rattle.model.specs.Range.{Admitted};
-ghost use Rattle.formula.specs.Count.{notBothCount, fieldCount, locationCount, equationCount, stepCount, constraintCount, parts, partCounts};
+ghost use Rattle.formula.specs.Count.{notBothCount, fieldCount, equationCount, stepCount, constraintCount, parts, partCounts};
 ghost use Rattle.formula.specs.Clause.{ids};
 ghost use Rattle.formula.specs.Count as model;
-ghost use Rattle.shape.specs.Bytes.{sideOf};
 ghost use Rattle.shape.specs.Name.{sectionOf};
+ghost use Rattle.kinds.specs.Census.{Surveyed};
 
 // The pairs of two values, of l letters and blank.
 pub fn not_both_count(l: usize) -> usize
@@ -41,53 +39,14 @@ pub fn field_count(sheet: &[u8], f: usize) -> usize
     limit * (2 + not_both_count(shape::letters(sheet))) - 1
 }
 
-// The clauses of a location, by what stands on its two sides.
-pub fn location_count(l: usize, u: u8, v: u8) -> usize
-    requires { ⌜ l ≤ 8 ⌝ }
-    ensures { λ n. ⌜ (n ≡ locationCount l (sideOf u) (sideOf v)) × (n ≤ 11) ⌝ }
+// The census of the right side of equation p, by which its rows are counted.
+pub fn survey(sheet: &[u8], p: usize) -> Census
+    requires { ⌜ Admitted (now sheet) × (p < length (sheetOf (now sheet) .equations)) ⌝ }
+    ensures { λ c. ⌜ Surveyed (sheetOf (now (sheet .entry))) p c ⌝ }
 {
-    if u == USED {
-        if v == USED {
-            return 0;
-        }
-        if v < FIRST_PLACE {
-            return 1;
-        }
-        return 2;
-    }
-    if v == USED {
-        if u < FIRST_PLACE {
-            return 1;
-        }
-        return 2;
-    }
-    if u < FIRST_PLACE {
-        if v < FIRST_PLACE {
-            if u == v {
-                return 1;
-            }
-            return 2;
-        }
-        return 3;
-    }
-    if v < FIRST_PLACE {
-        return l + 1;
-    }
-    l + 3
-}
-
-// The clauses of a row of locations: of those with u on the left and, on the right, the first n cells and what stands past them.
-pub fn row_count(l: usize, u: u8, right: [u8; ROOM], n: usize) -> usize
-    requires { ⌜ (l ≤ 8) × (n ≤ 24) ⌝ }
-    ensures { λ r. ⌜ (r ≡ total (suc n) (λ j. locationCount l (sideOf u) (sideOf (getD right j 0)))) × (r ≤ 275) ⌝ }
-{
-    let mut sum: usize = 0;
-    let mut j: usize = 0;
-    while j <= n {
-        sum = sum + location_count(l, u, right[j]);
-        j += 1;
-    }
-    sum
+    let letters = shape::letters(sheet);
+    let n = shape::width(sheet, p, 1);
+    kinds::census_of(letters, shape::side(sheet, p, 1), n)
 }
 
 // The clauses of equation p.
@@ -97,13 +56,12 @@ pub fn equation_count(sheet: &[u8], p: usize) -> usize
 {
     let letters = shape::letters(sheet);
     let m = shape::width(sheet, p, 0);
-    let n = shape::width(sheet, p, 1);
     let left = shape::side(sheet, p, 0);
-    let right = shape::side(sheet, p, 1);
+    let right = survey(sheet, p);
     let mut sum: usize = 1;
     let mut i: usize = 0;
     while i <= m {
-        sum = sum + row_count(letters, left[i], right, n);
+        sum = sum + kinds::row_count(letters, left[i], right);
         i += 1;
     }
     sum

@@ -6,8 +6,11 @@ use Prim.Native.Nat.{ℕ, _+_, _-_, _*_, _<_, _≤_}
 use lib.Dec.{eqb}
 use lib.ListN.{getD}
 use Rattle.model.specs.Lists.{pick, total}
+use Rattle.model.specs.Sheet.{Sheet}
+use Rattle.formula.specs.Clause.{blank, leftCells}
 use Rattle.formula.specs.Kind.{Side, used, atLetter, atField, sameLetter, differentLetters, letterField, fieldLetter, twoFields, usedLetter, usedField, bothUsed, kindCount}
-use Rattle.shape.specs.Bytes.{sideOf}
+use Rattle.formula.specs.Count.{rowCount}
+use Rattle.shape.specs.Bytes.{sideBytes, sideOf}
 use Rattle.kinds.specs.declared.Census.{Census}
 
 -- How often a side is a letter, a place, letter a; and what a letter adds where a place is on the left, its own number.
@@ -68,3 +71,8 @@ rowOf l (atLetter a) c =
     + c .places * kindCount l letterField
     + 1 * kindCount l usedLetter
 rowOf l atField c = c .own + c .places * kindCount l twoFields + 1 * kindCount l usedField
+
+-- A census of the right side of equation p gives the clauses of each of its rows.
+pub record Surveyed (s : Sheet) (p : ℕ) (c : Census) : Type 0 where
+  pub few : Few c
+  pub rows : (i : ℕ) → i ≤ 24 → rowOf (blank s) (sideOf (getD (sideBytes (leftCells s p)) i 0)) c ≡ rowCount s p i

@@ -94,7 +94,7 @@ fn in_row(sheet: &[u8], p: usize, i: usize, u: u8, right: [u8; ROOM], n: usize) 
     let mut rest = n;
     let mut j: usize = 0;
     while j <= width {
-        let size = counting::location_count(letters, u, right[j]);
+        let size = kinds::location_count(letters, u, right[j]);
         if rest < size {
             return at_location(letters, p, i, j, u, right[j], rest);
         }
@@ -114,13 +114,13 @@ pub fn in_equation(sheet: &[u8], p: usize, n: usize) -> ClauseId
     }
     let letters = shape::letters(sheet);
     let m = shape::width(sheet, p, 0);
-    let width = shape::width(sheet, p, 1);
+    let census = counting::survey(sheet, p);
     let left = shape::side(sheet, p, 0);
     let right = shape::side(sheet, p, 1);
     let mut rest = n - 1;
     let mut i: usize = 0;
     while i <= m {
-        let size = counting::row_count(letters, left[i], right, width);
+        let size = kinds::row_count(letters, left[i], census);
         if rest < size {
             return in_row(sheet, p, i, left[i], right, rest);
         }

@@ -8,15 +8,15 @@ use Rattle.model.specs.Sheet.{sheetOf}
 use Rattle.formula.specs.Clause.{leftCells}
 use Rattle.formula.specs.Count.{rowCount}
 use Rattle.model.proofs.Keeping.{total-more, total-none}
-use Rattle.counting.proofs.Laws.{row-known, equation-known}
+use Rattle.counting.proofs.Laws.{row-found, equation-known}
 use Rattle.counting.proofs.equation_count.Statement.{statement}
 use Rattle.counting.proofs.equation_count.Tie as tie
 
 abbrev Inv-loop : tie.InvT-loop
-Inv-loop sheet p letters m n left right sum₀ i₀ sum i = (i ≤ m + 1) × (sum ≡ 1 + total i (rowCount (sheetOf sheet) p)) × (sum ≤ 1 + i * 275)
+Inv-loop sheet p letters m left right sum₀ i₀ sum i = (i ≤ m + 1) × (sum ≡ 1 + total i (rowCount (sheetOf sheet) p)) × (sum ≤ 1 + i * 275)
 
 abbrev μ-loop : tie.MeasureT-loop
-μ-loop sheet p letters m n left right sum₀ i₀ sum i = m + 1 - i
+μ-loop sheet p letters m left right sum₀ i₀ sum i = m + 1 - i
 
 letters-requires : tie.Need-letters-requires Inv-loop μ-loop
 letters-requires c κs = c .before .pre .0
@@ -26,78 +26,69 @@ width-requires c κs =
     let at-start = c .before .before in
     at-start .pre
 
-width-requires-2 : tie.Need-width-requires-2 Inv-loop μ-loop
-width-requires-2 c κs =
+side-requires : tie.Need-side-requires Inv-loop μ-loop
+side-requires c κs =
     let at-start = c .before .before .before in
     at-start .pre
 
-side-requires : tie.Need-side-requires Inv-loop μ-loop
-side-requires c κs =
+survey-requires : tie.Need-survey-requires Inv-loop μ-loop
+survey-requires c κs =
     let at-start = c .before .before .before .before in
-    at-start .pre
-
-side-requires-2 : tie.Need-side-requires-2 Inv-loop μ-loop
-side-requires-2 c κs =
-    let at-start = c .before .before .before .before .before in
     at-start .pre
 
 loop-holds : tie.Need-loop-holds Inv-loop μ-loop
 loop-holds c =
-    let at-start = c .before .before .before .before .before .before in
+    let at-start = c .before .before .before .before .before in
     (omega arith, omega (arith, total-none (rowCount (sheetOf (at-start .args .sheet .now)) (at-start .args .p))), omega arith)
 
 array-read-row-count : tie.Need-array-read-row-count Inv-loop μ-loop
 array-read-row-count c =
-    let at-width = c .before .before .before .before .before .width in
-    omega (arith, at-width .ensures)
+    let at-width = c .before .before .before .before in
+    omega (arith, at-width .width .ensures)
 
 row-count-requires : tie.Need-row-count-requires Inv-loop μ-loop
 row-count-requires c κs =
-    let at-letters = c .before .before .before .before .before .before .letters in
-    let at-start = c .before .before .before .before .before .before .before .before in
-    let at-width2 = c .before .before .before .before .width2 in
-    (omega (arith, at-letters .ensures, at-start .pre .0 .1 .counts-in .of-letters), at-width2 .ensures .1)
+    let at-survey = c .before .before in
+    let at-letters = at-survey .before .before .before in
+    let at-start = at-letters .before .before in
+    (omega (arith, at-letters .letters .ensures, at-start .pre .0 .1 .counts-in .of-letters), at-survey .survey .ensures .few)
 
 add-sum : tie.Need-add-sum Inv-loop μ-loop
 add-sum c =
-    let at-width = c .before .before .before .before .before .before .width in
+    let at-width = c .before .before .before .before .before in
     let at-loop = c .before .before .loop in
-    omega (arith, at-width .ensures, at-loop .inv, c .row-count .ensures)
+    omega (arith, at-width .width .ensures, at-loop .inv, c .row-count .ensures)
 
 add-i : tie.Need-add-i Inv-loop μ-loop
 add-i c =
-    let at-width = c .before .before .before .before .before .before .width in
-    omega (arith, at-width .ensures)
+    let at-width = c .before .before .before .before .before in
+    omega (arith, at-width .width .ensures)
 
 loop-less : tie.Need-loop-less Inv-loop μ-loop
 loop-less c = omega arith
 
 loop-again : tie.Need-loop-again Inv-loop μ-loop
 loop-again c =
-    let at-start = c .before .before .before .before .before .before .before .before .before in
-    let at-loop = c .before .before .loop in
-    let at-width = c .before .before .before .before .before .before .width in
-    let at-letters = c .before .before .before .before .before .before .before .letters in
-    let at-width2 = c .before .before .before .before .before .width2 in
-    let at-side = c .before .before .before .before .side in
-    let at-side2 = c .before .before .before .side2 in
-    let a = at-start .args in
-    let l = at-loop in
-    let s = sheetOf (a .sheet .now) in
-    let row = row-known s (at-start .pre .0 .1) (a .p) (at-start .pre .1) (l .i) (omega (arith, at-width .ensures)) (at-letters .result) (at-width2 .result) (at-side .result) (at-side2 .result) (at-letters .ensures) (at-width2 .ensures .0) (at-side .ensures) (at-side2 .ensures) in
-    let more = total-more (l .i) (rowCount s (a .p)) in
-    let this = c .row-count .ensures .0 ∙ row in
+    let l = c .before .before .loop in
+    let at-survey = c .before .before .before in
+    let at-side = at-survey .before in
+    let at-width = at-side .before in
+    let at-letters = at-width .before in
+    let at-start = at-letters .before .before in
+    let s = sheetOf (at-start .args .sheet .now) in
+    let more = total-more (l .i) (rowCount s (at-start .args .p)) in
+    let this = c .row-count .ensures .0 ∙ row-found s (at-start .args .p) (at-survey .survey .result) (at-survey .survey .ensures) (at-letters .letters .result) (at-side .side .result) (at-letters .letters .ensures) (at-side .side .ensures) (l .i) (omega (arith, at-width .width .ensures)) in
     (omega arith, omega (arith, l .inv), omega (arith, l .inv, c .row-count .ensures))
 
 returns : tie.Need-returns Inv-loop μ-loop
 returns c =
-    let at-start = c .before .before .before .before .before .before .before .before in
-    let at-width = c .before .before .before .before .before .width in
+    let at-width = c .before .before .before .before in
+    let at-start = at-width .before .before .before in
     let a = at-start .args in
     let l = c .before .loop in
     let s = sheetOf (a .sheet .now) in
-    let e : l .i ≡ suc (length (leftCells s (a .p))) = omega (arith, l .inv, at-width .ensures) in
-    (l .inv .1 ∙ ap (λ k. 1 + total k (rowCount s (a .p))) e ∙ sym (equation-known s (a .p)), omega (arith, l .inv, at-width .ensures))
+    let e : l .i ≡ suc (length (leftCells s (a .p))) = omega (arith, l .inv, at-width .width .ensures) in
+    (l .inv .1 ∙ ap (λ k. 1 + total k (rowCount s (a .p))) e ∙ sym (equation-known s (a .p)), omega (arith, l .inv, at-width .width .ensures))
 
 pub equation-count-spec : {M : Type 1} → statement M
 equation-count-spec =
@@ -107,9 +98,8 @@ equation-count-spec =
     μ-loop
     letters-requires
     width-requires
-    width-requires-2
     side-requires
-    side-requires-2
+    survey-requires
     loop-holds
     array-read-row-count
     row-count-requires

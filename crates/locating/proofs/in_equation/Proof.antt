@@ -8,16 +8,16 @@ use Rattle.model.specs.Sheet.{sheetOf}
 use Rattle.formula.specs.Clause.{leftCells}
 use Rattle.formula.specs.Count.{rowCount, equationStart}
 use Rattle.formula.proofs.Small.{letters-few}
-use Rattle.counting.proofs.Laws.{row-known, equation-known}
+use Rattle.counting.proofs.Laws.{row-found, equation-known}
 use Rattle.locating.proofs.Laws.{at-first, at-next, never-past, same-number, start-found}
 use Rattle.locating.proofs.in_equation.Statement.{statement}
 use Rattle.locating.proofs.in_equation.Tie as tie
 
 abbrev Inv-loop : tie.InvT-loop
-Inv-loop sheet p n letters m width left right rest₀ i₀ rest i = (i ≤ m + 1) × (total i (rowCount (sheetOf sheet) p) + rest ≡ n - 1)
+Inv-loop sheet p n letters m census left right rest₀ i₀ rest i = (i ≤ m + 1) × (total i (rowCount (sheetOf sheet) p) + rest ≡ n - 1)
 
 abbrev μ-loop : tie.MeasureT-loop
-μ-loop sheet p n letters m width left right rest₀ i₀ rest i = m + 1 - i
+μ-loop sheet p n letters m census left right rest₀ i₀ rest i = m + 1 - i
 
 returns : tie.Need-returns Inv-loop μ-loop
 returns c =
@@ -35,8 +35,8 @@ width-requires c κs =
     let at-start = c .before .before .before in
     (at-start .pre .0, at-start .pre .1)
 
-width-requires-2 : tie.Need-width-requires-2 Inv-loop μ-loop
-width-requires-2 c κs =
+survey-requires : tie.Need-survey-requires Inv-loop μ-loop
+survey-requires c κs =
     let at-start = c .before .before .before .before in
     (at-start .pre .0, at-start .pre .1)
 
@@ -70,9 +70,9 @@ row-count-requires : tie.Need-row-count-requires Inv-loop μ-loop
 row-count-requires c κs =
     let at-start = c .before .before .before .before .before .before .before .before .before in
     let at-letters = c .before .before .before .before .before .before .letters in
-    let at-width2 = c .before .before .before .before .width2 in
+    let at-survey = c .before .before .before .before .survey in
     let s = sheetOf (at-start .args .sheet .now) in
-    (omega (arith, at-letters .ensures, letters-few s (at-start .pre .0 .1)), at-width2 .ensures .1)
+    (omega (arith, at-letters .ensures, letters-few s (at-start .pre .0 .1)), at-survey .ensures .few)
 
 -- how many clauses the row has
 the-size : (c : tie.After-row-count Inv-loop μ-loop) →
@@ -83,11 +83,10 @@ the-size c =
     let at-loop = c .before .before .loop in
     let at-width = c .before .before .before .before .before .before .width in
     let at-letters = c .before .before .before .before .before .before .before .letters in
-    let at-width2 = c .before .before .before .before .before .width2 in
+    let at-survey = c .before .before .before .before .before .survey in
     let at-side = c .before .before .before .before .side in
-    let at-side2 = c .before .before .before .side2 in
     let s = sheetOf (at-start .args .sheet .now) in
-    c .row-count .ensures .0 ∙ row-known s (at-start .pre .0 .1) (at-start .args .p) (at-start .pre .1) (at-loop .i) (omega (arith, at-width .ensures)) (at-letters .result) (at-width2 .result) (at-side .result) (at-side2 .result) (at-letters .ensures) (at-width2 .ensures .0) (at-side .ensures) (at-side2 .ensures)
+    c .row-count .ensures .0 ∙ row-found s (at-start .args .p) (at-survey .result) (at-survey .ensures) (at-letters .result) (at-side .result) (at-letters .ensures) (at-side .ensures) (at-loop .i) (omega (arith, at-width .ensures))
 
 array-read-in-row : tie.Need-array-read-in-row Inv-loop μ-loop
 array-read-in-row c =
@@ -144,7 +143,7 @@ in-equation-spec =
     returns
     letters-requires
     width-requires
-    width-requires-2
+    survey-requires
     side-requires
     side-requires-2
     sub-rest
