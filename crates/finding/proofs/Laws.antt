@@ -18,6 +18,10 @@ use Rattle.model.proofs.Lists.{by-test}
 use Rattle.model.proofs.Keeping.{total-more}
 use Rattle.formula.proofs.Totals.{place-before, field-total}
 use Rattle.formula.proofs.Finding.{some-at, not-both-at, tail-at, zero-at, add-at, bound-at}
+use Rattle.literals.specs.declared.ClauseId.{ClauseId}
+use Rattle.finding.specs.Sought.{Sought}
+use Rattle.finding.specs.declared.Found.{Found}
+use Rattle.finding.specs.declared.Found.the-variants.{Clause, Past}
 use Rattle.numbering.proofs.Laws.{number-few, read-back}
 use Rattle.counting.proofs.Laws.{field-none, constraint-known}
 use Rattle.model.proofs.Templates.{well-formed}
@@ -138,3 +142,12 @@ module _ (s : Sheet) (ok : InRange s) (r : ℕ) (hr : r < length (s .constraints
           (read-back s ok r hr v (omega arith) (w + rest) bound-below q e ∙ ap₂ (λ j z. least s (constraint s r) j +ℤ pos (z + rest)) ev ew)
           ∙ sym (bound-at s (well-formed s ok) r hr rest left-over)
           ∙ ap (λ z. idAt s z) (omega (arith, steps))
+
+-- Clauses after others: what is found among the first, and what is found past them.
+module _ (s : Sheet) (start size n : ℕ) where
+  pub sought-first : (more : ℕ) (q : ClauseId) → Sought s start size n (Clause q) → Sought s start (size + more) n (Clause q)
+  sought-first more q h = (omega (arith, h .0), h .1)
+
+  pub sought-later : (k more : ℕ) (r : Found) → Sought s start size n (Past k) → Sought s (start + size) more k r → Sought s start (size + more) n r
+  sought-later k more (Clause q) e h = (omega (arith, h .0), same-number s _ (start + size + k) (start + n) (h .1) (omega arith))
+  sought-later k more (Past j) e h = omega arith

@@ -9,9 +9,10 @@ ghost use Rattle.model.specs.Lists.{total};
 ghost use Rattle.model.specs.Sheet.{sheetOf, constraint};
 ghost use Rattle.model.specs.Range.{Admitted};
 ghost use Rattle.formula.specs.Clause.{ids, idAt, least, spread};
-ghost use Rattle.formula.specs.Count.{fieldCount, constraintCount, constraintStart, parts, partCounts, sectionStart};
+ghost use Rattle.formula.specs.Count.{fieldCount, constraintCount, kClauses, sClauses, constraintStart, parts, partCounts, sectionStart};
 ghost use Rattle.shape.specs.Name.{sectionOf};
 ghost use Rattle.literals.specs.Name.{nameOf};
+ghost use Rattle.finding.specs.Sought.{Sought};
 
 // Clause n of those of field f.
 fn in_field(sheet: &[u8], f: usize, n: usize) -> ClauseId
@@ -82,10 +83,16 @@ fn in_part(sheet: &[u8], section: Section, i: usize, n: usize) -> ClauseId
     }
 }
 
+// What is found of a number: a clause's name, or that there are no more than so many clauses fewer.
+pub enum Found {
+    Clause(ClauseId),
+    Past(usize),
+}
+
 // Clause n of those of a section.
-fn in_section(sheet: &[u8], section: Section, n: usize) -> ClauseId
-    requires { ⌜ Admitted (now sheet) × (n < total (parts (sheetOf (now sheet)) (sectionOf section)) (partCounts (sheetOf (now sheet)) (sectionOf section))) ⌝ }
-    ensures { λ r. ⌜ nameOf r ≡ idAt (sheetOf (now (sheet .entry))) (sectionStart (sheetOf (now (sheet .entry))) (sectionOf section) + n) ⌝ }
+fn in_section(sheet: &[u8], section: Section, n: usize) -> Found
+    requires { ⌜ Admitted (now sheet) ⌝ }
+    ensures { λ r. ⌜ Sought (sheetOf (now (sheet .entry))) (sectionStart (sheetOf (now (sheet .entry))) (sectionOf section)) (total (parts (sheetOf (now (sheet .entry))) (sectionOf section)) (partCounts (sheetOf (now (sheet .entry))) (sectionOf section))) n r ⌝ }
 {
     let parts = shape::parts(sheet, section);
     let mut rest = n;
@@ -93,26 +100,32 @@ fn in_section(sheet: &[u8], section: Section, n: usize) -> ClauseId
     while i < parts {
         let size = counting::part_count(sheet, section, i);
         if rest < size {
-            return in_part(sheet, section, i, rest);
+            return Found::Clause(in_part(sheet, section, i, rest));
         }
         rest = rest - size;
         i += 1;
     }
-    ClauseId::Start(0)
+    Found::Past(rest)
 }
 
-// The clause of number n.
-pub fn find(sheet: &[u8], n: usize) -> ClauseId
-    requires { ⌜ Admitted (now sheet) × (n < length (ids (sheetOf (now sheet)))) ⌝ }
-    ensures { λ r. ⌜ nameOf r ≡ idAt (sheetOf (now (sheet .entry))) n ⌝ }
+// Clause n of those past the fields'.
+fn past_fields(sheet: &[u8], n: usize) -> Found
+    requires { ⌜ Admitted (now sheet) ⌝ }
+    ensures { λ r. ⌜ Sought (sheetOf (now (sheet .entry))) (kClauses (sheetOf (now (sheet .entry)))) (sClauses (sheetOf (now (sheet .entry))) + total (length (sheetOf (now (sheet .entry)) .constraints)) (constraintCount (sheetOf (now (sheet .entry))))) n r ⌝ }
 {
-    let of_fields = counting::section_count(sheet, Section::Fields);
-    if n < of_fields {
-        return in_section(sheet, Section::Fields, n);
+    match in_section(sheet, Section::Equations, n) {
+        Found::Clause(id) => Found::Clause(id),
+        Found::Past(rest) => in_section(sheet, Section::Constraints, rest),
     }
-    let of_equations = counting::section_count(sheet, Section::Equations);
-    if n - of_fields < of_equations {
-        return in_section(sheet, Section::Equations, n - of_fields);
+}
+
+// The clause of number n, if there are more than n.
+pub fn find(sheet: &[u8], n: usize) -> Found
+    requires { ⌜ Admitted (now sheet) ⌝ }
+    ensures { λ r. ⌜ Sought (sheetOf (now (sheet .entry))) 0 (length (ids (sheetOf (now (sheet .entry))))) n r ⌝ }
+{
+    match in_section(sheet, Section::Fields, n) {
+        Found::Clause(id) => Found::Clause(id),
+        Found::Past(rest) => past_fields(sheet, rest),
     }
-    in_section(sheet, Section::Constraints, n - of_fields - of_equations)
 }

@@ -76,18 +76,18 @@ abbrev pub kindAt : Sheet → ℕ → ℕ → ℕ → Kind
 kindAt s p i j = kind (side (leftCells s p) i) (side (rightCells s p) j)
 
 -- Whether two kinds are the same: by their lines in the request's list, from 0.
-abbrev pub lineOf : Kind → ℕ
-lineOf sameLetter = 0
-lineOf differentLetters = 1
-lineOf letterField = 2
-lineOf fieldLetter = 3
-lineOf twoFields = 4
-lineOf usedLetter = 5
-lineOf usedField = 6
-lineOf bothUsed = 7
+abbrev pub kindNumber : Kind → ℕ
+kindNumber sameLetter = 0
+kindNumber differentLetters = 1
+kindNumber letterField = 2
+kindNumber fieldLetter = 3
+kindNumber twoFields = 4
+kindNumber usedLetter = 5
+kindNumber usedField = 6
+kindNumber bothUsed = 7
 
 abbrev pub sameKind : Kind → Kind → Bool
-sameKind k q = eqb (lineOf k) (lineOf q)
+sameKind k q = eqb (kindNumber k) (kindNumber q)
 
 -- how many locations of equation p are of a kind
 abbrev pub locationsOf : Sheet → ℕ → Kind → ℕ

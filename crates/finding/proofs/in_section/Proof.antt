@@ -5,8 +5,9 @@ use native.Mathlib.Omega.{arith}
 use Rattle.model.specs.Lists.{total}
 use Rattle.model.specs.Sheet.{sheetOf}
 use Rattle.formula.specs.Count.{parts, partCounts, sectionStart}
+use Rattle.model.proofs.Keeping.{total-fits}
 use Rattle.shape.specs.Name.{sectionOf}
-use Rattle.locating.proofs.Laws.{at-first, at-next, never-past, same-number}
+use Rattle.locating.proofs.Laws.{at-first, at-next, same-number}
 use Rattle.finding.proofs.in_section.Statement.{statement}
 use Rattle.finding.proofs.in_section.Tie as tie
 
@@ -17,7 +18,7 @@ abbrev μ-loop : tie.MeasureT-loop
 μ-loop sheet section n parts rest₀ i₀ rest i = parts - i
 
 parts-requires : tie.Need-parts-requires Inv-loop μ-loop
-parts-requires c κs = c .before .pre .0
+parts-requires c κs = c .before .pre
 
 loop-holds : tie.Need-loop-holds Inv-loop μ-loop
 loop-holds c =
@@ -29,21 +30,25 @@ part-count-requires : tie.Need-part-count-requires Inv-loop μ-loop
 part-count-requires c κs =
     let at-start = c .before .before .before .before in
     let at-parts = c .before .before .parts in
-    (at-start .pre .0, omega (arith, at-parts .ensures .0))
+    (at-start .pre, omega (arith, at-parts .ensures .0))
 
 in-part-requires : tie.Need-in-part-requires Inv-loop μ-loop
 in-part-requires c κs =
     let at-start = c .before .before .before .before .before .before in
     let at-parts = c .before .before .before .before .parts in
     let at-loop = c .before .before .before .loop in
-    (at-start .pre .0, omega (arith, at-parts .ensures .0), subst (λ n. at-loop .rest < n) (c .before .part-count .ensures .0) (c .if1 .taken))
+    (at-start .pre, omega (arith, at-parts .ensures .0), subst (λ n. at-loop .rest < n) (c .before .part-count .ensures .0) (c .if1 .taken))
 
 returns : tie.Need-returns Inv-loop μ-loop
 returns c =
     let at-start = c .before .before .before .before .before .before .before in
+    let at-parts = c .before .before .before .before .before .parts in
     let at-loop = c .before .before .before .before .loop in
     let s = sheetOf (at-start .args .sheet .now) in
-    same-number s _ (sectionStart s (sectionOf (at-start .args .section)) + (total (at-loop .i) (partCounts s (sectionOf (at-start .args .section))) + at-loop .rest)) (sectionStart s (sectionOf (at-start .args .section)) + at-start .args .n) (c .in-part .ensures) (omega (arith, at-loop .inv .1))
+    let x = sectionOf (at-start .args .section) in
+    let inside = subst (λ n. at-loop .rest < n) (c .before .before .part-count .ensures .0) (c .before .if1 .taken) in
+    let fits = total-fits (parts s x) (partCounts s x) (at-loop .i) (at-loop .rest) (omega (arith, at-parts .ensures .0, c .before .before .before .loop-test .taken)) inside in
+    (omega (arith, at-loop .inv .1), same-number s _ (sectionStart s x + (total (at-loop .i) (partCounts s x) + at-loop .rest)) (sectionStart s x + at-start .args .n) (c .in-part .ensures) (omega (arith, at-loop .inv .1)))
 
 add-i : tie.Need-add-i Inv-loop μ-loop
 add-i c =
@@ -65,7 +70,9 @@ returns-2 c =
     let at-start = c .before .before .before .before in
     let at-parts = c .before .before .parts in
     let s = sheetOf (at-start .args .sheet .now) in
-    never-past (partCounts s (sectionOf (at-start .args .section))) (at-start .args .n) (parts s (sectionOf (at-start .args .section))) (c .before .loop .i) (c .before .loop .rest) (at-start .pre .1) (omega (arith, c .before .loop .inv, at-parts .ensures .0)) (c .before .loop .inv .1)
+    let x = sectionOf (at-start .args .section) in
+    let e : c .before .loop .i ≡ parts s x = omega (arith, c .before .loop .inv .0, at-parts .ensures .0) in
+    subst (λ i. total i (partCounts s x) + c .before .loop .rest ≡ at-start .args .n) e (c .before .loop .inv .1)
 
 pub in-section-spec : {M : Type 1} → statement M
 in-section-spec =
