@@ -1,6 +1,6 @@
 // The clause file of a sheet: how many variables and clauses it has, and its lines.
 ghost use mathlib.Core.Path.{_≡_};
-ghost use Prim.Native.Nat.{_≤_};
+ghost use Prim.Native.Nat.{suc, _≤_};
 ghost use lib.ListN.{length};
 ghost use Rattle.model.specs.Lists.{Puts};
 ghost use Rattle.model.specs.Sheet.{sheetOf};
@@ -9,6 +9,7 @@ ghost use Rattle.formula.specs.Clause.{ids};
 ghost use Rattle.formula.specs.Dimacs.{line};
 ghost use Rattle.calls.specs.Calls.{clauseCounts, counting, writing, Writes};
 ghost use Rattle.encoding.specs.Answer.{numberOf, threeCounts, counted, lined};
+ghost use Rattle.encoding.specs.Lines.{LineWritten};
 
 // What counting answers: the variables, the clauses, and a size that is at least the file's bytes.
 pub struct ClauseCounts {
@@ -73,18 +74,45 @@ pub fn count(sheet: &[u8]) -> Counting
     }
 }
 
-// Line n of an accepted sheet's clause file, from the front of the buffer on. Returns its length.
-fn put_line(buf: &mut [u8], sheet: &[u8], n: usize) -> usize
-    requires { ⌜ Admitted (now sheet) × (n ≤ length (ids (sheetOf (now sheet)))) × (80 ≤ length (now buf)) ⌝ }
-    ensures { λ r. ⌜ Puts (now (buf .entry)) 0 (line (sheetOf (now (sheet .entry))) n) (now (buf .exit)) r ⌝ }
+// What is written of a line: its length, or that n is above C.
+enum Written {
+    Length(usize),
+    Above,
+}
+
+// Line 0 of an accepted sheet's clause file, from the front of the buffer on. Returns its length.
+fn put_first(buf: &mut [u8], sheet: &[u8]) -> usize
+    requires { ⌜ Admitted (now sheet) × (80 ≤ length (now buf)) ⌝ }
+    ensures { λ r. ⌜ Puts (now (buf .entry)) 0 (line (sheetOf (now (sheet .entry))) 0) (now (buf .exit)) r ⌝ }
+{
+    let variables = numbering::variable_count(sheet);
+    let clauses = counting::clause_count(sheet);
+    dimacs::problem_line(buf, variables, clauses)
+}
+
+// The line of clause n, counted from 0, if there is one.
+fn put_clause(buf: &mut [u8], sheet: &[u8], n: usize) -> Written
+    requires { ⌜ Admitted (now sheet) × (80 ≤ length (now buf)) ⌝ }
+    ensures { λ r. ⌜ LineWritten (sheetOf (now (sheet .entry))) (suc n) (now (buf .entry)) r (now (buf .exit)) ⌝ }
+{
+    match finding::find(sheet, n) {
+        finding::Found::Past(_) => Written::Above,
+        finding::Found::Clause(id) => {
+            let codes = literals::codes(sheet, id);
+            Written::Length(dimacs::clause_line(buf, 0, &codes))
+        }
+    }
+}
+
+// Line n, if there is one.
+fn put_line(buf: &mut [u8], sheet: &[u8], n: usize) -> Written
+    requires { ⌜ Admitted (now sheet) × (80 ≤ length (now buf)) ⌝ }
+    ensures { λ r. ⌜ LineWritten (sheetOf (now (sheet .entry))) n (now (buf .entry)) r (now (buf .exit)) ⌝ }
 {
     if n == 0 {
-        let variables = numbering::variable_count(sheet);
-        let clauses = counting::clause_count(sheet);
-        return dimacs::problem_line(buf, variables, clauses);
+        return Written::Length(put_first(buf, sheet));
     }
-    let codes = literals::codes(sheet, finding::find(sheet, n - 1));
-    dimacs::clause_line(buf, 0, &codes)
+    put_clause(buf, sheet, n - 1)
 }
 
 // Writes line n of the clause file into the buffer, line 0 being the first: the line's length, or the first refusal in document 01's order.
@@ -95,16 +123,16 @@ pub fn write_line(sheet: &[u8], n: usize, buf: &mut [u8]) -> Writing
     match sheet::read(sheet) {
         sheet::Reading::Refused(refusal) => Writing::Refused(Refusal::Sheet(refusal)),
         sheet::Reading::Accepted(_) => {
-            let last = counting::clause_count(sheet);
-            if n > last {
-                return Writing::Refused(Refusal::Line);
-            }
             let mut line = [0u8; LINE_ROOM];
-            let len = put_line(&mut line, sheet, n);
-            if buf.len() < len {
-                return Writing::Refused(Refusal::Room);
+            match put_line(&mut line, sheet, n) {
+                Written::Above => Writing::Refused(Refusal::Line),
+                Written::Length(len) => {
+                    if buf.len() < len {
+                        return Writing::Refused(Refusal::Room);
+                    }
+                    Writing::Length(words::put(buf, 0, &line[..len]))
+                }
             }
-            Writing::Length(words::put(buf, 0, &line[..len]))
         }
     }
 }
