@@ -4,15 +4,14 @@ use mathlib.Core.Path.{_≡_, ap, ap₂, _∙_}
 use mathlib.Core.List.{List, [], _∷_}
 use Prim.Native.Nat.{ℕ, suc, _+_, _*_, _<_, _≤_}
 use native.Mathlib.Omega.{arith}
-use lib.Dec.{ltb, eqb}
 use lib.ListN.{length}
 use lib.Signed.{ltZ}
 use borrow.Author.Tests.{lt-ltb, le-ltb, eq-eqb, ne-eqb}
-use Rattle.model.specs.Lists.{pick, keep, total, Bytes}
+use Rattle.model.specs.Lists.{keep, total, Bytes}
 use Rattle.model.specs.Sheet.{Accepted, sheetOf, limit, constraint}
 use Rattle.model.specs.Cells.{Cell, letter, place}
 use Rattle.formula.specs.Clause.{cell, stays, ids, locationIds, sums, blank, fields, leftCells, rightCells}
-use Rattle.formula.specs.Kind.{Side, used, atLetter, atField, cellSide, side, sameLetter, differentLetters, letterField, fieldLetter, twoFields, usedLetter, usedField, bothUsed, kind, kindCount, kindAt, locationsOf}
+use Rattle.formula.specs.Kind.{Side, used, cellSide, side, sameLetter, differentLetters, letterField, fieldLetter, twoFields, usedLetter, usedField, bothUsed, kind, kindCount, kindAt, locationsOf}
 use Rattle.formula.specs.Count.{notBothCount, placeCount}
 use Rattle.formula.specs.Numbering.{variables}
 use Rattle.formula.specs.Dimacs.{allowance}

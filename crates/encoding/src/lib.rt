@@ -5,7 +5,6 @@ ghost use lib.ListN.{length};
 ghost use Rattle.model.specs.Lists.{Puts};
 ghost use Rattle.model.specs.Sheet.{sheetOf};
 ghost use Rattle.model.specs.Range.{Admitted};
-ghost use Rattle.formula.specs.Clause.{ids};
 ghost use Rattle.formula.specs.Dimacs.{line};
 ghost use Rattle.calls.specs.Calls.{clauseCounts, counting, writing, Writes};
 ghost use Rattle.encoding.specs.Answer.{numberOf, threeCounts, counted, lined};

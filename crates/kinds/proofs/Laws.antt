@@ -151,12 +151,14 @@ module _ (l : ℕ) (right : List ℕ) where
   pub counted-few : l ≤ 8 → (n : ℕ) → n ≤ 24 → (c : Census) → Counted l right n c → Few c × (c .letters + c .places ≤ n)
   counted-few h n k c d =
       let v : ℕ → Side = λ j. sideOf (getD right j 0) in
-      let cells = cells-few v n in
-      (record {
-        cells = omega (arith, d .letters, d .places);
-        at-most = omega (arith, d .letters, d .own, own-few v l h n);
-        each = λ a b. omega (arith, d .letters, d .times a b, this-few v a n);
-      }, omega (arith, d .letters, d .places))
+      let cells = cells-few v n in (
+        record {
+          cells = omega (arith, d .letters, d .places);
+          at-most = omega (arith, d .letters, d .own, own-few v l h n);
+          each = λ a b. omega (arith, d .letters, d .times a b, this-few v a n);
+        },
+        omega (arith, d .letters, d .places),
+      )
 
   -- A row by the census of the first n cells on the right, past which there is none, has the clauses of its locations.
   module _ (n : ℕ) (c : Census) (d : Counted l right n c) (taken : Taken right n) (past : sideOf (getD right n 0) ≡ used) where

@@ -1,5 +1,5 @@
 -- `encoding::put_line` meets its contract. Assumes nothing.
-use mathlib.Core.Path.{_≡_, sym, subst}
+use mathlib.Core.Path.{_≡_, subst}
 use Prim.Native.Nat.{suc, _-_}
 use native.Mathlib.Omega.{arith}
 use borrow.Author.Needs.{needs}
@@ -21,7 +21,8 @@ returns c =
     let at-if = at-first .before .before in
     let a = at-if .before .before .before .args in
     let s = sheetOf (a .sheet .now) in
-    subst (λ n. LineWritten s n (a .buf .now) (Length (at-first .put-first .result)) (at-first .put-first .last .0)) (sym (at-if .if1 .taken)) (omega arith, at-first .put-first .ensures)
+    let first : 0 ≡ a .n = omega (arith, at-if .if1 .taken) in
+    subst (λ n. LineWritten s n (a .buf .now) (Length (at-first .put-first .result)) (at-first .put-first .last .0)) first (omega arith, at-first .put-first .ensures)
 
 sub-put-clause : tie.Need-sub-put-clause
 sub-put-clause c = search needs

@@ -70,12 +70,14 @@ returns : tie.Need-returns
 returns c =
     let at-wide = c .before .before .before .before .before in
     let letters = at-wide .before .before .args .right .letters in
-    let same = few at-wide .1 in
-    (ap₂ _+_ (ap₂ _+_ (ap₂ _+_
-    (c .before .before .before .before .several .ensures .0 ∙ ap (λ n. n * 1) same)
-    (c .before .before .several2 .ensures .0 ∙ ap (λ n. (letters - n) * 2) same))
-    (c .before .several3 .ensures .0))
-    (c .several4 .ensures .0), small c)
+    let same = few at-wide .1 in (
+      ap₂ _+_ (ap₂ _+_ (ap₂ _+_
+          (c .before .before .before .before .several .ensures .0 ∙ ap (λ n. n * 1) same)
+          (c .before .before .several2 .ensures .0 ∙ ap (λ n. (letters - n) * 2) same))
+          (c .before .several3 .ensures .0))
+          (c .several4 .ensures .0),
+      small c,
+    )
 
 pub letter-row-spec : {M : Type 1} → statement M
 letter-row-spec =
