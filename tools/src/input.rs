@@ -17,6 +17,16 @@ pub struct Input {
     pub places: Option<Places>,
 }
 
+impl Input {
+    /// On which line a part stands, if the sheet was given as text.
+    pub fn line_of(&self, place: impl Fn(&Places) -> Place) -> String {
+        match &self.places {
+            Some(places) => format!(", line {}", place(places).line),
+            None => String::new(),
+        }
+    }
+}
+
 /// The first counts in the header that the engine refuses, less one: of letters, fields, pairs and rules.
 const MOST: [usize; 4] = [
     lunthegyr::LETTERS_MOST,

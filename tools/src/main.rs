@@ -2,6 +2,7 @@
 //! back, and hands the bytes to the engine.
 
 mod apart;
+mod count;
 mod draw;
 mod fill;
 mod form;
@@ -13,6 +14,7 @@ mod rule;
 mod solver;
 mod source;
 mod text;
+mod ticks;
 mod verdict;
 
 use lunthegyr::Refusal;
@@ -43,6 +45,7 @@ fn main() -> ExitCode {
         Some("help") => say(USAGE.as_bytes()).map(|()| 0),
         _ if help => say(USAGE.as_bytes()).map(|()| 0),
         Some("check") => check(&words[1..]),
+        Some("count") => count(&words[1..]),
         Some("fill") => fill(&words[1..]),
         Some("bytes") => bytes(&words[1..]),
         Some("text") => text(&words[1..]),
@@ -100,9 +103,7 @@ fn asked(words: &[String]) -> Result<Asked<'_>, Failure> {
                 asked.solver = Some(Choice::Named(rest[1..].to_string()));
             }
             _ if word == "--exit-code" => asked.exit_code = true,
-            _ if word.starts_with('-') && word != "-" => {
-                return misuse(format!("no such option: {word}"))
-            }
+            _ if is_option(word) => return misuse(format!("no such option: {word}")),
             _ => asked.files.push(word),
         }
     }
@@ -112,17 +113,30 @@ fn asked(words: &[String]) -> Result<Asked<'_>, Failure> {
     Ok(asked)
 }
 
-/// Goes through all sheets, also where one is faulty.
 fn check(words: &[String]) -> Result<u8, Failure> {
     let asked = asked(words)?;
     let solver = asked.solver.map(|choice| choice.name());
     let solver = solver.transpose().map_err(faulty)?;
+    let status = each(&asked.files, |file| check_one(file, solver.as_deref()))?;
+    Ok(match status {
+        CLASH | APART if !asked.exit_code => 0,
+        status => status,
+    })
+}
+
+/// `-` alone is standard input.
+fn is_option(word: &str) -> bool {
+    word.starts_with('-') && word != "-"
+}
+
+/// Goes through all sheets, also where one is faulty. Of several statuses the worst is given.
+fn each(files: &[&str], one: impl Fn(&str) -> Result<u8, Failure>) -> Result<u8, Failure> {
     let (mut statuses, mut unanswered) = (Vec::new(), 0);
-    for (number, file) in asked.files.iter().enumerate() {
+    for (number, file) in files.iter().enumerate() {
         if number > 0 {
             say(b"\n")?;
         }
-        match check_one(file, solver.as_deref()) {
+        match one(file) {
             Ok(status) => statuses.push(status),
             Err(failure) => {
                 eprintln!("{}", failure.message);
@@ -131,21 +145,18 @@ fn check(words: &[String]) -> Result<u8, Failure> {
         }
     }
     if unanswered > 0 {
-        if asked.files.len() > 1 {
+        if files.len() > 1 {
             eprintln!(
                 "lunthegyr: {unanswered} of {} sheets not answered",
-                asked.files.len()
+                files.len()
             );
         }
         statuses.push(FAULT);
     }
-    let first = [DISAGREE, FAULT, CLASH, APART]
+    let worst = [DISAGREE, FAULT, CLASH, APART]
         .into_iter()
         .find(|status| statuses.contains(status));
-    Ok(match first {
-        Some(CLASH | APART) if !asked.exit_code => 0,
-        first => first.unwrap_or(0),
-    })
+    Ok(worst.unwrap_or(0))
 }
 
 fn check_one(file: &str, solver: Option<&str>) -> Result<u8, Failure> {
@@ -164,6 +175,23 @@ fn check_one(file: &str, solver: Option<&str>) -> Result<u8, Failure> {
         None if apart::rules_can_hold(&input.form) => APART,
         None => FAULT,
     })
+}
+
+fn count(words: &[String]) -> Result<u8, Failure> {
+    let files: Vec<&str> = words.iter().map(String::as_str).collect();
+    let option = files.iter().find(|word| is_option(word));
+    match option {
+        Some(option) => misuse(format!("no such option: {option}")),
+        None if files.is_empty() => misuse("count needs a sheet".to_string()),
+        None => each(&files, count_one),
+    }
+}
+
+fn count_one(file: &str) -> Result<u8, Failure> {
+    let input = input::load(file).map_err(faulty)?;
+    let (same, lines) = count::of(&input);
+    say_lines(&lines)?;
+    Ok(if same { 0 } else { DISAGREE })
 }
 
 fn fill(words: &[String]) -> Result<u8, Failure> {

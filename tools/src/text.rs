@@ -29,7 +29,8 @@ impl Form {
         letters_line(&letters)
     }
 
-    fn pair_text(&self, pair: &Pair) -> String {
+    /// A pair's two templates.
+    pub fn pair_text(&self, pair: &Pair) -> String {
         let template = |symbols: &[Symbol]| -> String {
             symbols.iter().map(|&symbol| self.label(symbol)).collect()
         };
@@ -45,8 +46,8 @@ impl Form {
         }
     }
 
-    /// With `>=` where the first coefficient is negative, so that `-len(a) <= -1` reads `len(a) >= 1`.
-    fn rule_text(&self, rule: &Rule) -> String {
+    /// A rule with `>=` where the first coefficient is negative, so that `-len(a) <= -1` reads `len(a) >= 1`.
+    pub fn rule_text(&self, rule: &Rule) -> String {
         let first = rule
             .coefficients
             .iter()

@@ -8,7 +8,7 @@ use lunthegyr::{Checked, Filling, Side};
 
 /// The clash that is found, or none, and the verdict's lines.
 pub fn of(input: &Input) -> (Option<Filling>, Vec<String>) {
-    let mut lines = vec![format!("{}: {}", input.name, counts(input)), String::new()];
+    let mut lines = vec![heading(input), String::new()];
     let found = input.sheet.search();
     lines.extend(match &found {
         Some(filling) => clash(input, filling),
@@ -17,19 +17,20 @@ pub fn of(input: &Input) -> (Option<Filling>, Vec<String>) {
     (found, lines)
 }
 
-fn counts(input: &Input) -> String {
+/// The sheet's name and how much it has.
+pub fn heading(input: &Input) -> String {
     let form = &input.form;
-    [
+    let counts = [
         some(form.letters.len(), "letter"),
         some(form.fields.len(), "field"),
         some(form.pairs.len(), "pair"),
         some(form.rules.len(), "rule"),
-    ]
-    .join(", ")
+    ];
+    format!("{}: {}", input.name, counts.join(", "))
 }
 
 /// A number of things, in the plural unless it is 1.
-fn some(n: usize, thing: &str) -> String {
+pub fn some(n: usize, thing: &str) -> String {
     format!("{n} {thing}{}", if n == 1 { "" } else { "s" })
 }
 
@@ -63,7 +64,8 @@ fn clash(input: &Input, filling: &Filling) -> Vec<String> {
     }
     for number in 0..input.form.pairs.len() {
         lines.push(String::new());
-        lines.push(format!("pair {number}{}", line_of(input, number)));
+        let line = input.line_of(|places| places.pairs[number].start);
+        lines.push(format!("pair {number}{line}"));
         let drawn = drawn(input, filling, number);
         lines.extend(
             drawn
@@ -98,14 +100,6 @@ fn or_empty(text: &str) -> &str {
         "(empty)"
     } else {
         text
-    }
-}
-
-/// Where a pair stands, if the sheet was given as text.
-fn line_of(input: &Input, pair: usize) -> String {
-    match &input.places {
-        Some(places) => format!(", line {}", places.pairs[pair].start.line),
-        None => String::new(),
     }
 }
 
