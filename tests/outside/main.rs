@@ -1,10 +1,11 @@
 //! Compares the static library with plain answers to the same calls, some hundred thousand times
 //! each, and ends with status 1 at the first case on which the two differ. With the word `replies`
-//! it does so for replies, with `search` for the search, else for all other calls. With `solvers`
-//! and names of SAT solvers it gives the library's clause files to these, compares what they say
-//! with brute force and with the search, and gives their replies to the library. With `large`, a
-//! number and names of solvers it only compares them with the search, on large sheets, and on so
-//! many of the families that `late` makes.
+//! it does so for replies, with `search` for the search, else for all other calls, and for the
+//! counts of clauses in the tool's tables. With `solvers` and names of SAT solvers it gives the
+//! library's clause files to these, compares what they say with brute force and with the search,
+//! and gives their replies to the library. With `large`, a number and names of solvers it only
+//! compares them with the search, on large sheets, and on so many of the families that `late`
+//! makes.
 //!
 //! With `fuzz` and a number it makes so many calls on inputs of all kinds, and holds their answers
 //! to what must be so whatever the input; with `--exact` after it nothing is lent with margins, so
@@ -28,6 +29,9 @@ mod engine;
 mod examples;
 mod fillings;
 mod first;
+#[path = "../../tools/src/form.rs"]
+#[allow(dead_code)]
+mod form;
 mod fuzz;
 mod hard;
 mod inputs;
@@ -59,6 +63,9 @@ mod speller;
 mod tally;
 mod test;
 mod texts;
+mod ticking;
+#[path = "../../tools/src/ticks.rs"]
+mod ticks;
 mod turn;
 mod writer;
 mod writing;
@@ -123,5 +130,6 @@ fn test_all() {
     checking::run(&mut test);
     brute::run(&mut test.random);
     writing::run(&mut test);
+    ticking::run(&mut test.random);
     test.finish();
 }

@@ -251,21 +251,28 @@ struct Writer {
 }
 
 impl Clauses for Writer {
-    /// Adds a clause, unless a literal is always true. Literals that are always false are dropped.
+    /// Adds a clause that is not left out. Literals that are always false are dropped.
     fn clause(&mut self, kind: &'static str, literals: &[Literal]) {
+        if left_out(literals) {
+            return;
+        }
         let mut bytes = Vec::new();
         for literal in literals {
             let written = match literal {
                 Is(variable) => write!(bytes, "{} ", self.numbers[variable]),
                 Not(variable) => write!(bytes, "-{} ", self.numbers[variable]),
-                Always => return,
-                Never => Ok(()),
+                Always | Never => Ok(()),
             };
             written.expect("memory takes all bytes");
         }
         bytes.extend(b"0\n");
         self.clauses.push(Line { kind, bytes });
     }
+}
+
+/// Is a clause left out, since a literal is always true?
+pub fn left_out(literals: &[Literal]) -> bool {
+    literals.iter().any(|literal| matches!(literal, Always))
 }
 
 /// What is given the clauses of a sheet one by one, in document 01's order.

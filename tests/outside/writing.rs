@@ -119,9 +119,9 @@ fn each_varied(
     compare: impl Fn(&mut Test, &Written),
 ) {
     for _ in 0..times {
-        let sheet = make(&mut test.random);
-        let written = varied(&mut test.random, sheet);
-        compare(test, &written);
+        let mut sheet = make(&mut test.random);
+        vary(&mut test.random, &mut sheet);
+        compare(test, &writer::write(&sheets::encode(&sheet)));
     }
 }
 
@@ -148,7 +148,7 @@ fn largest(test: &mut Test) {
 
 /// A sheet with the most clauses: templates of fields alone, all as wide as can be, and sums that are
 /// all above their rule's limit.
-fn fullest() -> Sheet {
+pub fn fullest() -> Sheet {
     let template = |field| vec![Symbol::Field(field); 3];
     let rule = |coefficient| Rule {
         coefficients: vec![coefficient; 6],
@@ -186,7 +186,7 @@ fn refused(test: &mut Test) {
 }
 
 /// A valid sheet of any size, with some templates made as wide as can be.
-fn large(random: &mut Random) -> Sheet {
+pub fn large(random: &mut Random) -> Sheet {
     let mut sheet = sheets::valid(random);
     for pair in &mut sheet.pairs {
         if random.chance(WIDENED_PERCENT) {
@@ -214,9 +214,9 @@ fn widen(random: &mut Random, template: &mut Template, limits: &[u8]) {
     }
 }
 
-/// The clause file of a sheet, after most rules' limits came to the ends of their range or near the
-/// sums that there are, and some pairs came to have one template twice.
-fn varied(random: &mut Random, mut sheet: Sheet) -> Written {
+/// Puts most rules' limits to the ends of their range or near the sums that there are, and gives some
+/// pairs one template twice.
+pub fn vary(random: &mut Random, sheet: &mut Sheet) {
     for pair in &mut sheet.pairs {
         if random.chance(TWINS_PERCENT) {
             pair.right = pair.left.clone();
@@ -231,7 +231,6 @@ fn varied(random: &mut Random, mut sheet: Sheet) -> Written {
             rule.limit = random.one_of(&[near as i16, near as i16, i16::MIN, i16::MAX]);
         }
     }
-    writer::write(&sheets::encode(&sheet))
 }
 
 /// The counts and all lines, each in a buffer that is long enough, and in `also_short` of 100 cases
