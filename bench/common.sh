@@ -28,9 +28,10 @@ prove() {
     mkdir -p "$made"
 }
 
-# Builds a plain Rust program over the library.
+# Builds a plain Rust program over the library, or over the one in another folder.
 optimised=(-O)
-compile() { # FILE PROGRAM
+compile() { # FILE PROGRAM [FOLDER]
     have cc gcc && have rustc rustc || fail "rustc or gcc cannot be had"
-    rustc "${optimised[@]}" --edition 2021 --crate-name "${2//-/_}" -L target/staticlib -l static=engine -o "$made/$2" "$1"
+    local crate=${2##*/}
+    rustc "${optimised[@]}" --edition 2021 --crate-name "${crate//-/_}" -L "${3:-target/staticlib}" -l static=engine -o "$made/$2" "$1"
 }

@@ -1,9 +1,9 @@
 //! Measures the three programs and the library against plain programs and solvers, compares all that
 //! they print or hand over, prints tables in Markdown, and writes plots of how times grow.
 //!
-//! Its words: `--quick` to compare more than to measure, then sheets' files (`NAME.tpl`) that are searched
-//! besides the hard ones, then the names of the solvers that are installed. It runs in the repository's
-//! folder, and writes to target/bench.
+//! Its words: `--quick` to compare more than to measure, `--before` where there is an earlier build of the
+//! library too, then sheets' files (`NAME.tpl`) that are searched besides the hard ones, then the names of
+//! the solvers that are installed. It runs in the repository's folder, and writes to target/bench.
 
 #[path = "../../tests/outside/assignment.rs"]
 #[allow(dead_code)]
@@ -51,6 +51,8 @@ mod texts;
 #[allow(dead_code)]
 mod writer;
 
+#[path = "../lines/drawn.rs"]
+mod drawn;
 #[path = "../plain/numbers.rs"]
 mod numbers;
 #[path = "../plain/reply.rs"]
@@ -59,6 +61,7 @@ mod plain_reply;
 mod clauses;
 mod families;
 mod growth;
+mod lines;
 mod plot;
 mod race;
 mod replies;
@@ -74,6 +77,8 @@ use timing::Effort;
 /// What is measured, and with what.
 pub struct Setting {
     pub effort: Effort,
+    /// There is an earlier build of the library.
+    pub before: bool,
     /// Files of sheets besides the hard ones.
     pub sheets: Vec<String>,
     /// Solvers that are installed.
@@ -94,16 +99,20 @@ const QUICK: Effort = Effort {
 };
 
 fn main() {
-    let words: Vec<String> = std::env::args().skip(1).collect();
-    let quick = words.iter().any(|word| word == "--quick");
-    let words = words.into_iter().filter(|word| word != "--quick");
+    let words = std::env::args().skip(1);
+    let (options, words): (Vec<String>, Vec<String>) =
+        words.partition(|word| word.starts_with("--"));
+    let given = |option: &str| options.iter().any(|word| word == option);
+    let words = words.into_iter();
     let (sheets, solvers) = words.partition(|word| word.ends_with(".tpl"));
     let setting = Setting {
-        effort: if quick { QUICK } else { THOROUGH },
+        effort: if given("--quick") { QUICK } else { THOROUGH },
+        before: given("--before"),
         sheets,
         solvers,
     };
     println!("{}", clauses::table_of(&setting));
+    println!("{}", lines::table_of(&setting));
     println!("{}", replies::table_of(&setting));
     println!("{}", search::tables(&setting));
     println!("{}", growth::plots(&setting));
