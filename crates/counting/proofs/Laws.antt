@@ -13,11 +13,11 @@ use Rattle.formula.specs.Clause.{blank, fields, cell, leftCells, rightCells, sp
 use Rattle.formula.specs.Kind.{used, cellSide, side}
 use Rattle.formula.specs.Count.{locationCount, notBothCount, placeCount, fieldCount, locationSize, rowCount, equationCount, stepCount, within, constraintCount, kClauses, sClauses, clauseCount}
 use Rattle.model.proofs.Keeping.{total-none, total-same}
-use Rattle.formula.proofs.Small.{cells-small}
+use Rattle.formula.proofs.Small.{letters-few, cells-small}
 use Rattle.formula.proofs.Totals.{field-total, clause-count}
 use Rattle.shape.specs.Bytes.{sideBytes, sideOf}
 use Rattle.shape.proofs.Sides.{side-at}
-use Rattle.kinds.specs.Census.{Taken, Counted, Surveyed, rowOf}
+use Rattle.kinds.specs.Census.{Few, AllCells, Counted, rowOf}
 use Rattle.kinds.specs.declared.Census.{Census}
 use Rattle.kinds.proofs.Laws.{counted-few, letter-below, row-counted}
 use Rattle.model.proofs.Templates.{well-formed}
@@ -31,46 +31,54 @@ module _ (s : Sheet) (f : ℕ) (n : ℕ) (is : n ≡ limit s f) where
   field-some z l p el ep =
       ap₂ (λ x y. x * (2 + y)) is (ep ∙ ap notBothCount el) ∙ sym (field-total (blank s) (limit s f) (omega arith))
 
--- The right side of an equation by its bytes: the first are cells, and past them the template is used up. So a census of them gives the rows.
+-- The right side of an equation by its bytes: the first are cells, and past them the template is used up.
 not-past : (u : Cell) → cellSide u ≡ used → ⊥
 not-past (letter a) e = let z : _≡_ {A = ℕ} 0 1 = cc in omega arith
 not-past (place f c) e = let z : _≡_ {A = ℕ} 0 1 = cc in omega arith
 
-module _ (s : Sheet) (ok : InRange s) (p : ℕ) (h : p < length (s .equations)) (right : List ℕ) (er : right ≡ sideBytes (rightCells s p)) where
-  right-is : (j : ℕ) → j ≤ 24 → sideOf (getD right j 0) ≡ side (rightCells s p) j
-  right-is j k = ap (λ b. sideOf (getD b j 0)) er ∙ side-at s ok p h 1 j k
+-- as much of the census of that side as is asked
+abbrev pub Survey : Sheet → ℕ → Census → Type 0
+Survey s p c = Counted (blank s) (sideBytes (rightCells s p)) (length (rightCells s p)) c
 
-  module _ (n : ℕ) (en : n ≡ length (rightCells s p)) where
-    pub right-taken : Taken right n
-    right-taken j k e =
+module _ (s : Sheet) (ok : InRange s) (p : ℕ) (h : p < length (s .equations)) where
+  abbrev right : List ℕ
+  right = sideBytes (rightCells s p)
+
+  abbrev n : ℕ
+  n = length (rightCells s p)
+
+  right-taken : AllCells right n
+  right-taken j k e =
+      let few = cells-small s ok p h .1 in
+      let there = lt-ltb j n k in
+      let at : side (rightCells s p) j ≡ used = sym (side-at s ok p h 1 j (omega arith)) ∙ e in
+      not-past (cell (rightCells s p) j) (rw there at at)
+
+  right-past : sideOf (getD right n 0) ≡ used
+  right-past =
+      let few = cells-small s ok p h .1 in
+      side-at s ok p h 1 n few ∙ rw (le-ltb n n (omega arith))
+
+  -- what is asked of the bytes, and of the census that is made of them, by whatever is equal to these
+  pub cells-taken : (bytes : List ℕ) (m : ℕ) → bytes ≡ right → m ≡ n → AllCells bytes m
+  cells-taken bytes m eb em = rw (eb, em) right-taken
+
+  pub counted-right : (l : ℕ) (bytes : List ℕ) (m : ℕ) (c : Census) → l ≡ blank s → bytes ≡ right → m ≡ n → Counted l bytes m c → Survey s p c
+  counted-right l bytes m c el eb em d = rw (el, eb, em) at d
+
+  -- A census of that side is of few cells, and gives the row with left cell i.
+  module _ (c : Census) (d : Survey s p c) where
+    pub survey-few : Few c
+    survey-few = counted-few (blank s) right (letters-few s ok) n (cells-small s ok p h .1) c d .0
+
+    pub row-found : (l : ℕ) (left : List ℕ) → l ≡ blank s → left ≡ sideBytes (leftCells s p)
+        → (i : ℕ) → i ≤ 24 → rowOf l (sideOf (getD left i 0)) c ≡ rowCount s p i
+    row-found l left el ea i k =
         let few = cells-small s ok p h .1 in
-        let there = lt-ltb j (length (rightCells s p)) (omega arith) in
-        let at : side (rightCells s p) j ≡ used = sym (right-is j (omega arith)) ∙ e in
-        not-past (cell (rightCells s p) j) (rw there at at)
-
-    right-past : sideOf (getD right n 0) ≡ used
-    right-past =
-        let few = cells-small s ok p h .1 in
-        right-is n (omega arith) ∙ rw (le-ltb n (length (rightCells s p)) (omega arith))
-
-    pub surveyed : (l : ℕ) → l ≡ blank s → (c : Census) → Counted l right n c → Surveyed s p c
-    surveyed l el c d =
-        let few = cells-small s ok p h .1 in
-        let letters = ok .counts-in .of-letters in
-        record {
-          few = counted-few l right (omega arith) n (omega arith) c d .0;
-          rows = λ i k.
-              let u : ℕ = getD (sideBytes (leftCells s p)) i 0 in
-              ap (λ b. rowOf b (sideOf u) c) (sym el)
-              ∙ row-counted l right n c d right-taken right-past (sideOf u) (letter-below u)
-              ∙ rw (el, en) (total-same (suc (length (rightCells s p))) _ (locationSize s p i) (λ j m.
-              ap₂ (locationCount (blank s)) (side-at s ok p h 0 i k) (right-is j (omega arith))));
-        }
-
--- the row with left cell i
-pub row-found : (s : Sheet) (p : ℕ) (c : Census) → Surveyed s p c → (l : ℕ) (left : List ℕ) → l ≡ blank s → left ≡ sideBytes (leftCells s p)
-    → (i : ℕ) → i ≤ 24 → rowOf l (sideOf (getD left i 0)) c ≡ rowCount s p i
-row-found s p c h l left el ea i k = ap₂ (λ b x. rowOf b (sideOf (getD x i 0)) c) el ea ∙ h .rows i k
+        let u : ℕ = getD (sideBytes (leftCells s p)) i 0 in
+        ap₂ (λ b x. rowOf b (sideOf (getD x i 0)) c) el ea
+        ∙ row-counted (blank s) right n c d right-taken right-past (sideOf u) (letter-below u)
+        ∙ total-same (suc n) _ (locationSize s p i) (λ j m. ap₂ (locationCount (blank s)) (side-at s ok p h 0 i k) (side-at s ok p h 1 j (omega arith)))
 
 pub equation-known : (s : Sheet) (p : ℕ) → equationCount s p ≡ 1 + total (suc (length (leftCells s p))) (rowCount s p)
 unfolding equationCount

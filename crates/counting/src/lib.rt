@@ -8,10 +8,11 @@ ghost use Rattle.model.specs.Lists.{total};
 ghost use Rattle.model.specs.Sheet.{sheetOf};
 ghost use Rattle.model.specs.Range.{Admitted};
 ghost use Rattle.formula.specs.Count.{notBothCount, fieldCount, equationCount, stepCount, constraintCount, parts, partCounts};
-ghost use Rattle.formula.specs.Clause.{ids};
+ghost use Rattle.formula.specs.Clause.{ids, blank, rightCells};
 ghost use Rattle.formula.specs.Count as model;
+ghost use Rattle.shape.specs.Bytes.{sideBytes};
 ghost use Rattle.shape.specs.Name.{sectionOf};
-ghost use Rattle.kinds.specs.Census.{Surveyed};
+ghost use Rattle.kinds.specs.Census.{Counted};
 
 // The pairs of two values, of l letters and blank.
 pub fn not_both_count(l: usize) -> usize
@@ -42,7 +43,7 @@ pub fn field_count(sheet: &[u8], f: usize) -> usize
 // The census of the right side of equation p, by which its rows are counted.
 pub fn survey(sheet: &[u8], p: usize) -> Census
     requires { ⌜ Admitted (now sheet) × (p < length (sheetOf (now sheet) .equations)) ⌝ }
-    ensures { λ c. ⌜ Surveyed (sheetOf (now (sheet .entry))) p c ⌝ }
+    ensures { λ c. ⌜ Counted (blank (sheetOf (now (sheet .entry)))) (sideBytes (rightCells (sheetOf (now (sheet .entry))) p)) (length (rightCells (sheetOf (now (sheet .entry))) p)) c ⌝ }
 {
     let letters = shape::letters(sheet);
     let n = shape::width(sheet, p, 1);
@@ -112,7 +113,7 @@ pub fn part_count(sheet: &[u8], section: Section, i: usize) -> usize
 }
 
 // The clauses of a section.
-pub fn section_count(sheet: &[u8], section: Section) -> usize
+fn section_count(sheet: &[u8], section: Section) -> usize
     requires { ⌜ Admitted (now sheet) ⌝ }
     ensures { λ n. ⌜ (n ≡ total (parts (sheetOf (now (sheet .entry))) (sectionOf section)) (partCounts (sheetOf (now (sheet .entry))) (sectionOf section))) × (n ≤ 63696) ⌝ }
 {

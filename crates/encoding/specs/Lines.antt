@@ -1,4 +1,5 @@
--- What it means that line n was written into a buffer, or that there is none.
+-- What it means that line n was written into a buffer, or that there is none and the buffer is as it was.
+use mathlib.Core.Path.{_≡_}
 use mathlib.Core.List.{List}
 use Prim.Native.Nat.{ℕ, _<_, _≤_}
 use lib.ListN.{length}
@@ -11,4 +12,4 @@ use Rattle.encoding.specs.declared.Written.the-variants.{Length, Above}
 
 abbrev pub LineWritten : Sheet → ℕ → List ℕ → Written → List ℕ → Type 0
 LineWritten s n before (Length k) after = (n ≤ length (ids s)) × Puts before 0 (line s n) after k
-LineWritten s n before Above after = length (ids s) < n
+LineWritten s n before Above after = (length (ids s) < n) × (after ≡ before)

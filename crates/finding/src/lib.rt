@@ -83,13 +83,13 @@ fn in_part(sheet: &[u8], section: Section, i: usize, n: usize) -> ClauseId
     }
 }
 
-// What is found of a number: a clause's name, or that there are no more than so many clauses fewer.
+// What is found at a number: the name of its clause; or, where there are too few clauses, the number less how many there are.
 pub enum Found {
     Clause(ClauseId),
     Past(usize),
 }
 
-// Clause n of those of a section.
+// Clause n of those of a section, if there are so many.
 fn in_section(sheet: &[u8], section: Section, n: usize) -> Found
     requires { ⌜ Admitted (now sheet) ⌝ }
     ensures { λ r. ⌜ Sought (sheetOf (now (sheet .entry))) (sectionStart (sheetOf (now (sheet .entry))) (sectionOf section)) (total (parts (sheetOf (now (sheet .entry))) (sectionOf section)) (partCounts (sheetOf (now (sheet .entry))) (sectionOf section))) n r ⌝ }
@@ -108,7 +108,7 @@ fn in_section(sheet: &[u8], section: Section, n: usize) -> Found
     Found::Past(rest)
 }
 
-// Clause n of those past the fields'.
+// Clause n of the equations' and then the constraints' clauses, if there are so many.
 fn past_fields(sheet: &[u8], n: usize) -> Found
     requires { ⌜ Admitted (now sheet) ⌝ }
     ensures { λ r. ⌜ Sought (sheetOf (now (sheet .entry))) (kClauses (sheetOf (now (sheet .entry)))) (sClauses (sheetOf (now (sheet .entry))) + total (length (sheetOf (now (sheet .entry)) .constraints)) (constraintCount (sheetOf (now (sheet .entry))))) n r ⌝ }
@@ -119,7 +119,7 @@ fn past_fields(sheet: &[u8], n: usize) -> Found
     }
 }
 
-// The clause of number n, if there are more than n.
+// Clause n of all, if there are so many.
 pub fn find(sheet: &[u8], n: usize) -> Found
     requires { ⌜ Admitted (now sheet) ⌝ }
     ensures { λ r. ⌜ Sought (sheetOf (now (sheet .entry))) 0 (length (ids (sheetOf (now (sheet .entry))))) n r ⌝ }

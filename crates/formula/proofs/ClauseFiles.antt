@@ -9,7 +9,7 @@ use Rattle.model.specs.Lists.{each, from, upTo, any, keep, total}
 use Rattle.model.specs.Sheet.{letter, field, Sheet}
 use Rattle.model.specs.Cells.{cells}
 use Rattle.formula.specs.Clause.{terms, leftOut, literals, least, spread, sums, placeIds, locationIds, equationIds, constraintIds, listed, ids}
-use Rattle.formula.specs.Kind.{sameLetter, differentLetters, letterField, fieldLetter, twoFields, usedLetter, usedField, bothUsed, locationsOf}
+use Rattle.formula.specs.Kind.{sameLetterTwice, differentLetters, letterThenField, fieldThenLetter, twoFields, usedUpBeforeLetter, usedUpBeforeField, bothUsedUp, locationsOf}
 use Rattle.formula.specs.Count.{addedUp}
 use Rattle.formula.specs.Numbering.{kVariables, sVariables, tVariables, variables, number, clause}
 use Rattle.formula.specs.Dimacs.{digits, decimal, problemLine, clauseLine, line, file}
@@ -223,7 +223,7 @@ all-added-up = refl
 
 abbrev kindsOf : Sheet → ℕ → List ℕ
 kindsOf s p =
-    map (locationsOf s p) (sameLetter ∷ differentLetters ∷ letterField ∷ fieldLetter ∷ twoFields ∷ usedLetter ∷ usedField ∷ bothUsed ∷ [])
+    map (locationsOf s p) (sameLetterTwice ∷ differentLetters ∷ letterThenField ∷ fieldThenLetter ∷ twoFields ∷ usedUpBeforeLetter ∷ usedUpBeforeField ∷ bothUsedUp ∷ [])
 
 pub all-kinds :
     map (λ (c : ClauseFile). map (kindsOf (c .sheet)) (upTo (length (c .sheet .equations)))) clauseFiles ≡ map (λ (c : ClauseFile). c .kinds) clauseFiles

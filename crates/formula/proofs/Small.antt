@@ -14,7 +14,7 @@ use Rattle.model.specs.Sheet.{Sheet, limit, equation, constraint, coefficient}
 use Rattle.model.specs.Range.{ConstraintIn, InRange}
 use Rattle.formula.specs.Clause.{lowest, least, spread, blank, fields, leftCells, rightCells}
 use Rattle.formula.specs.Numbering.{kSize, sSize, rowSize, tSize, kCount, sCount, tCount, variableCount}
-use Rattle.formula.specs.Kind.{Kind, sameLetter, differentLetters, letterField, fieldLetter, twoFields, usedLetter, usedField, bothUsed, kindCount, kindAt}
+use Rattle.formula.specs.Kind.{Kind, sameLetterTwice, differentLetters, letterThenField, fieldThenLetter, twoFields, usedUpBeforeLetter, usedUpBeforeField, bothUsedUp, kindCount, kindAt}
 use Rattle.formula.specs.Count.{notBothCount, placeCount, fieldCount, locationSize, rowCount, equationCount, stepCount, constraintCount, kClauses, sClauses, clauseCount, Section, ofFields, ofEquations, ofConstraints, parts, variableCounts}
 use Rattle.model.proofs.Lists.{by-test, at}
 use Rattle.model.proofs.Keeping.{total-const}
@@ -52,14 +52,14 @@ lowest-small (negsuc a) n h l = product-small (negsuc a) n h l
 
 -- the clauses of a location
 kind-few : (l : ℕ) (k : Kind) → kindCount l k ≤ l + 3
-kind-few l sameLetter = omega arith
+kind-few l sameLetterTwice = omega arith
 kind-few l differentLetters = omega arith
-kind-few l letterField = omega arith
-kind-few l fieldLetter = omega arith
+kind-few l letterThenField = omega arith
+kind-few l fieldThenLetter = omega arith
 kind-few l twoFields = omega arith
-kind-few l usedLetter = omega arith
-kind-few l usedField = omega arith
-kind-few l bothUsed = omega arith
+kind-few l usedUpBeforeLetter = omega arith
+kind-few l usedUpBeforeField = omega arith
+kind-few l bothUsedUp = omega arith
 
 one-or-none : (b : Bool) → pick b 1 0 ≤ 1
 one-or-none true = omega arith

@@ -1,5 +1,5 @@
--- Document 02, No. 2: a location has as many clauses as its kind says, and C adds up from how many locations there are of each kind. First sums
--- over the kinds: `ticked` of sums is the sum of what is ticked, and one location is ticked as its kind. Assumes nothing.
+-- Document 02, No. 2: a location has as many clauses as its kind says, and C adds up from how many locations there are of each kind. For that, sums over
+-- the kinds: `ticked` of a sum of counts is the sum of what is ticked, and one location is ticked as its kind. Assumes nothing.
 use mathlib.Core.Path.{_≡_, refl, sym, ap, ap₂, _∙_}
 use Prim.Native.Nat.{ℕ, zero, suc, _+_, _-_, _*_, _<_, _≤_}
 use native.Mathlib.Nat.{add-mul, suc-mul, mul-suc}
@@ -11,7 +11,7 @@ use Rattle.model.specs.Lists.{pick, keep, total}
 use Rattle.model.specs.Sheet.{Sheet, limit, constraint}
 use Rattle.model.specs.Range.{WellFormed}
 use Rattle.formula.specs.Clause.{stays, ids, locationIds, least, spread, sums, blank, fields, leftCells, rightCells}
-use Rattle.formula.specs.Kind.{Kind, sameLetter, differentLetters, letterField, fieldLetter, twoFields, usedLetter, usedField, bothUsed, side, kindCount, kindAt, sameKind, locationsOf, ticked}
+use Rattle.formula.specs.Kind.{Kind, sameLetterTwice, differentLetters, letterThenField, fieldThenLetter, twoFields, usedUpBeforeLetter, usedUpBeforeField, bothUsedUp, side, kindCount, kindAt, sameKind, locationsOf, ticked}
 use Rattle.formula.specs.Count.{notBothCount, equationCount, stepCount, within, constraintCount, kClauses, clauseCount, addedUp}
 use Rattle.model.proofs.Keeping.{length-map-from, total-const, total-same}
 use Rattle.formula.proofs.Standing.{sides-in, standing-is, standing-count}
@@ -29,22 +29,22 @@ location-kind s ok p hp i j hi hj =
 module _ (w : Kind → ℕ) where
   -- one location
   ticked-one : (k : Kind) → ticked (λ q. pick (sameKind q k) 1 0) w ≡ w k
-  ticked-one sameLetter = omega arith
+  ticked-one sameLetterTwice = omega arith
   ticked-one differentLetters = omega arith
-  ticked-one letterField = omega arith
-  ticked-one fieldLetter = omega arith
+  ticked-one letterThenField = omega arith
+  ticked-one fieldThenLetter = omega arith
   ticked-one twoFields = omega arith
-  ticked-one usedLetter = omega arith
-  ticked-one usedField = omega arith
-  ticked-one bothUsed = omega arith
+  ticked-one usedUpBeforeLetter = omega arith
+  ticked-one usedUpBeforeField = omega arith
+  ticked-one bothUsedUp = omega arith
 
-  -- some more
+  -- two counts added
   ticked-both : (f g : Kind → ℕ) → ticked (λ k. f k + g k) w ≡ ticked f w + ticked g w
   ticked-both f g =
       let both : (k : Kind) → (f k + g k) * w k ≡ f k * w k + g k * w k = λ k. add-mul (f k) (g k) (w k) in
-      omega (arith, both sameLetter, both differentLetters, both letterField, both fieldLetter, both twoFields, both usedLetter, both usedField, both bothUsed)
+      omega (arith, both sameLetterTwice, both differentLetters, both letterThenField, both fieldThenLetter, both twoFields, both usedUpBeforeLetter, both usedUpBeforeField, both bothUsedUp)
 
-  -- many
+  -- a sum of counts
   ticked-total : (n : ℕ) (h : ℕ → Kind → ℕ) → ticked (λ k. total n (λ i. h i k)) w ≡ total n (λ i. ticked (h i) w)
   unfolding total
   ticked-total zero h = omega arith
@@ -61,7 +61,7 @@ module _ (w : Kind → ℕ) where
       ∙ total-same m _ (λ i. total n (λ j. w (kindAt s p i j))) (λ i _. ticked-total n (one i)
       ∙ total-same n _ (λ j. w (kindAt s p i j)) (λ j _. ticked-one (kindAt s p i j)))
 
--- Each location of an equation is of one kind.
+-- The locations of all kinds together are all locations of an equation.
 pub kinds-all : (s : Sheet) (p : ℕ) → ticked (locationsOf s p) (λ k. 1) ≡ suc (length (leftCells s p)) * suc (length (rightCells s p))
 kinds-all s p =
     let m : ℕ = suc (length (leftCells s p)) in

@@ -1,5 +1,5 @@
--- Document 02, No. 2: of which of eight kinds a location is, by what its two sides have, and how many clauses each kind has. `Standing.antt` of
--- the proofs shows that these are the clauses that document 01 lists there.
+-- Document 02, No. 2: of which of eight kinds a location is, by what its two sides have, and how many clauses each kind has. So many document 01 lists
+-- there, by `location-kind` in `Ticked.antt` of the proofs.
 use mathlib.Core.Bool.{Bool}
 use mathlib.Core.List.{List}
 use Prim.Native.Nat.{ℕ, suc, _+_, _*_, _<_}
@@ -31,60 +31,60 @@ SideIn l atField = Unit
 
 -- The kinds, in the request's order.
 pub data Kind : Type 0 where
-  sameLetter : Kind
+  sameLetterTwice : Kind
   differentLetters : Kind
-  letterField : Kind
-  fieldLetter : Kind
+  letterThenField : Kind
+  fieldThenLetter : Kind
   twoFields : Kind
-  usedLetter : Kind
-  usedField : Kind
-  bothUsed : Kind
+  usedUpBeforeLetter : Kind
+  usedUpBeforeField : Kind
+  bothUsedUp : Kind
 
 -- how many clauses a location of each has, with l letters
 abbrev pub kindCount : ℕ → Kind → ℕ
 -- "Same letter twice: 1."
-kindCount l sameLetter = 1
+kindCount l sameLetterTwice = 1
 -- "Different letters: 2."
 kindCount l differentLetters = 2
 -- "Letter then field: 3."
-kindCount l letterField = 3
+kindCount l letterThenField = 3
 -- "Field then letter: L+1."
-kindCount l fieldLetter = l + 1
+kindCount l fieldThenLetter = l + 1
 -- "Two fields: L+3."
 kindCount l twoFields = l + 3
 -- "One template used up: 1 before a letter,"
-kindCount l usedLetter = 1
+kindCount l usedUpBeforeLetter = 1
 -- "2 before a field."
-kindCount l usedField = 2
+kindCount l usedUpBeforeField = 2
 -- "Both used up: 0."
-kindCount l bothUsed = 0
+kindCount l bothUsedUp = 0
 
 -- The kind of a location by its left side and its right side; "one template used up" is either of the two.
 abbrev pub kind : Side → Side → Kind
-kind (atLetter a) (atLetter b) = pick (eqb a b) sameLetter differentLetters
-kind (atLetter a) atField = letterField
-kind atField (atLetter b) = fieldLetter
+kind (atLetter a) (atLetter b) = pick (eqb a b) sameLetterTwice differentLetters
+kind (atLetter a) atField = letterThenField
+kind atField (atLetter b) = fieldThenLetter
 kind atField atField = twoFields
-kind used (atLetter b) = usedLetter
-kind (atLetter a) used = usedLetter
-kind used atField = usedField
-kind atField used = usedField
-kind used used = bothUsed
+kind used (atLetter b) = usedUpBeforeLetter
+kind (atLetter a) used = usedUpBeforeLetter
+kind used atField = usedUpBeforeField
+kind atField used = usedUpBeforeField
+kind used used = bothUsedUp
 
 -- of location (i, j) of equation p
 abbrev pub kindAt : Sheet → ℕ → ℕ → ℕ → Kind
 kindAt s p i j = kind (side (leftCells s p) i) (side (rightCells s p) j)
 
--- Whether two kinds are the same: by their lines in the request's list, from 0.
+-- A kind's number in that order, and whether two kinds are the same.
 abbrev pub kindNumber : Kind → ℕ
-kindNumber sameLetter = 0
+kindNumber sameLetterTwice = 0
 kindNumber differentLetters = 1
-kindNumber letterField = 2
-kindNumber fieldLetter = 3
+kindNumber letterThenField = 2
+kindNumber fieldThenLetter = 3
 kindNumber twoFields = 4
-kindNumber usedLetter = 5
-kindNumber usedField = 6
-kindNumber bothUsed = 7
+kindNumber usedUpBeforeLetter = 5
+kindNumber usedUpBeforeField = 6
+kindNumber bothUsedUp = 7
 
 abbrev pub sameKind : Kind → Kind → Bool
 sameKind k q = eqb (kindNumber k) (kindNumber q)
@@ -94,14 +94,14 @@ abbrev pub locationsOf : Sheet → ℕ → Kind → ℕ
 locationsOf s p k =
     total (suc (length (leftCells s p))) (λ i. total (suc (length (rightCells s p))) (λ j. pick (sameKind k (kindAt s p i j)) 1 0))
 
--- So many locations of each kind, times a number for each: with `kindCount` what is ticked off.
+-- The sum over all kinds of n locations times w each; with `kindCount` for w, the clauses that are ticked off.
 abbrev pub ticked : (Kind → ℕ) → (Kind → ℕ) → ℕ
 ticked n w =
-    n sameLetter * w sameLetter
+    n sameLetterTwice * w sameLetterTwice
     + (n differentLetters * w differentLetters
-    + (n letterField * w letterField
-    + (n fieldLetter * w fieldLetter
+    + (n letterThenField * w letterThenField
+    + (n fieldThenLetter * w fieldThenLetter
     + (n twoFields * w twoFields
-    + (n usedLetter * w usedLetter
-    + (n usedField * w usedField
-    + n bothUsed * w bothUsed))))))
+    + (n usedUpBeforeLetter * w usedUpBeforeLetter
+    + (n usedUpBeforeField * w usedUpBeforeField
+    + n bothUsedUp * w bothUsedUp))))))

@@ -9,10 +9,10 @@ use lib.ListN.{length, getD, set, replicate, getD-replicate}
 use lib.Seq.{getD-set-same, getD-set-other}
 use borrow.Author.Tests.{ltb-true, eqb-true, eqb-false}
 use Rattle.model.specs.Lists.{total}
-use Rattle.formula.specs.Kind.{Side, used, atLetter, atField, SideIn, fieldLetter, kindCount}
+use Rattle.formula.specs.Kind.{Side, used, atLetter, atField, SideIn, fieldThenLetter, kindCount}
 use Rattle.formula.specs.Count.{locationCount}
 use Rattle.shape.specs.Bytes.{sideOf}
-use Rattle.kinds.specs.Census.{asLetter, asPlace, asThis, ownOf, timesOf, Few, Added, Taken, Counted, rowOf}
+use Rattle.kinds.specs.Census.{asLetter, asPlace, asThis, ownOf, timesOf, Few, Added, AllCells, Counted, rowOf}
 use Rattle.kinds.specs.declared.Census.{Census}
 use Rattle.model.proofs.Lists.{by-test}
 use Rattle.model.proofs.Keeping.{total-more, total-none}
@@ -111,7 +111,7 @@ module _ (v : ℕ → Side) where
 
 -- The census with a letter more, and with a place more.
 module _ (l x : ℕ) (c : Census) where
-  pub letter-added : (a own : ℕ) (times : List ℕ) → x < 8 → a ≡ x → own ≡ kindCount l fieldLetter
+  pub letter-added : (a own : ℕ) (times : List ℕ) → x < 8 → a ≡ x → own ≡ kindCount l fieldThenLetter
       → ((b : ℕ) → getD times b 0 ≡ timesOf c b + asThis b (atLetter a))
       → Added l (sideOf x) c (record { letters = c .letters + 1; places = c .places; own = c .own + own; times = times })
   letter-added a own times h e q f =
@@ -161,7 +161,7 @@ module _ (l : ℕ) (right : List ℕ) where
       )
 
   -- A row by the census of the first n cells on the right, past which there is none, has the clauses of its locations.
-  module _ (n : ℕ) (c : Census) (d : Counted l right n c) (taken : Taken right n) (past : sideOf (getD right n 0) ≡ used) where
+  module _ (n : ℕ) (c : Census) (d : Counted l right n c) (taken : AllCells right n) (past : sideOf (getD right n 0) ≡ used) where
     abbrev v : ℕ → Side
     v j = sideOf (getD right j 0)
 

@@ -6,11 +6,8 @@ use Prim.Native.Nat.{ℕ, _+_, _-_, _*_, _<_, _≤_}
 use lib.Dec.{eqb}
 use lib.ListN.{getD}
 use Rattle.model.specs.Lists.{pick, total}
-use Rattle.model.specs.Sheet.{Sheet}
-use Rattle.formula.specs.Clause.{blank, leftCells}
-use Rattle.formula.specs.Kind.{Side, used, atLetter, atField, sameLetter, differentLetters, letterField, fieldLetter, twoFields, usedLetter, usedField, bothUsed, kindCount}
-use Rattle.formula.specs.Count.{rowCount}
-use Rattle.shape.specs.Bytes.{sideBytes, sideOf}
+use Rattle.formula.specs.Kind.{Side, used, atLetter, atField, sameLetterTwice, differentLetters, letterThenField, fieldThenLetter, twoFields, usedUpBeforeLetter, usedUpBeforeField, bothUsedUp, kindCount}
+use Rattle.shape.specs.Bytes.{sideOf}
 use Rattle.kinds.specs.declared.Census.{Census}
 
 -- How often a side is a letter, a place, letter a; and what a letter adds where a place is on the left, its own number.
@@ -31,14 +28,14 @@ asThis a atField = 0
 
 abbrev pub ownOf : ℕ → Side → ℕ
 ownOf l used = 0
-ownOf l (atLetter b) = kindCount l fieldLetter
+ownOf l (atLetter b) = kindCount l fieldThenLetter
 ownOf l atField = 0
 
 -- how often letter a stands there
 abbrev pub timesOf : Census → ℕ → ℕ
 timesOf c a = getD (c .times) a 0
 
--- There are at most 24 cells, and no letter stands there more often than all of them.
+-- At most 24 cells, at most 9 clauses for each letter, and no letter more often than there are letters.
 pub record Few (c : Census) : Type 0 where
   pub cells : c .letters + c .places ≤ 24
   pub at-most : c .own ≤ c .letters * 9
@@ -52,8 +49,8 @@ pub record Added (l : ℕ) (v : Side) (before after : Census) : Type 0 where
   pub times : (a : ℕ) → a < 8 → timesOf after a ≡ timesOf before a + asThis a v
 
 -- the first n bytes are cells
-abbrev pub Taken : List ℕ → ℕ → Type 0
-Taken right n = (j : ℕ) → j < n → sideOf (getD right j 0) ≡ used → ⊥
+abbrev pub AllCells : List ℕ → ℕ → Type 0
+AllCells right n = (j : ℕ) → j < n → sideOf (getD right j 0) ≡ used → ⊥
 
 -- the census of the first n cells
 pub record Counted (l : ℕ) (right : List ℕ) (n : ℕ) (c : Census) : Type 0 where
@@ -62,17 +59,12 @@ pub record Counted (l : ℕ) (right : List ℕ) (n : ℕ) (c : Census) : Type 0 
   pub own : c .own ≡ total n (λ j. ownOf l (sideOf (getD right j 0)))
   pub times : (a : ℕ) → a < 8 → timesOf c a ≡ total n (λ j. asThis a (sideOf (getD right j 0)))
 
--- A row's clauses, by how many locations of each kind it has: with what is on the left against each cell of the census, and past them.
+-- A row's clauses, by how many locations of each kind it has: one for each cell of the census, and the last, where the right template is used up.
 abbrev pub rowOf : ℕ → Side → Census → ℕ
-rowOf l used c = c .letters * kindCount l usedLetter + c .places * kindCount l usedField + 1 * kindCount l bothUsed
+rowOf l used c = c .letters * kindCount l usedUpBeforeLetter + c .places * kindCount l usedUpBeforeField + 1 * kindCount l bothUsedUp
 rowOf l (atLetter a) c =
-    timesOf c a * kindCount l sameLetter
+    timesOf c a * kindCount l sameLetterTwice
     + (c .letters - timesOf c a) * kindCount l differentLetters
-    + c .places * kindCount l letterField
-    + 1 * kindCount l usedLetter
-rowOf l atField c = c .own + c .places * kindCount l twoFields + 1 * kindCount l usedField
-
--- A census of the right side of equation p gives the clauses of each of its rows.
-pub record Surveyed (s : Sheet) (p : ℕ) (c : Census) : Type 0 where
-  pub few : Few c
-  pub rows : (i : ℕ) → i ≤ 24 → rowOf (blank s) (sideOf (getD (sideBytes (leftCells s p)) i 0)) c ≡ rowCount s p i
+    + c .places * kindCount l letterThenField
+    + 1 * kindCount l usedUpBeforeLetter
+rowOf l atField c = c .own + c .places * kindCount l twoFields + 1 * kindCount l usedUpBeforeField

@@ -11,18 +11,18 @@ ghost use Rattle.formula.specs.Kind.{used, atLetter, atField, kind, kindCount};
 ghost use Rattle.formula.specs.Count.{locationCount};
 ghost use Rattle.shape.specs.Bytes.{sideOf};
 ghost use Rattle.kinds.specs.Name.{kindOf};
-ghost use Rattle.kinds.specs.Census.{asThis, Few, Added, Counted, Taken, rowOf};
+ghost use Rattle.kinds.specs.Census.{asThis, Few, Added, Counted, AllCells, rowOf};
 
 // The kinds, in the request's order.
 pub enum Kind {
-    SameLetter,
+    SameLetterTwice,
     DifferentLetters,
-    LetterField,
-    FieldLetter,
+    LetterThenField,
+    FieldThenLetter,
     TwoFields,
-    UsedLetter,
-    UsedField,
-    BothUsed,
+    UsedUpBeforeLetter,
+    UsedUpBeforeField,
+    BothUsedUp,
 }
 
 // How many clauses a location of a kind has; l is the number of letters.
@@ -31,29 +31,29 @@ pub fn kind_count(l: usize, kind: Kind) -> usize
     ensures { λ n. ⌜ (n ≡ kindCount l (kindOf kind)) × (n ≤ 11) ⌝ }
 {
     match kind {
-        Kind::SameLetter => 1,
+        Kind::SameLetterTwice => 1,
         Kind::DifferentLetters => 2,
-        Kind::LetterField => 3,
-        Kind::FieldLetter => l + 1,
+        Kind::LetterThenField => 3,
+        Kind::FieldThenLetter => l + 1,
         Kind::TwoFields => l + 3,
-        Kind::UsedLetter => 1,
-        Kind::UsedField => 2,
-        Kind::BothUsed => 0,
+        Kind::UsedUpBeforeLetter => 1,
+        Kind::UsedUpBeforeField => 2,
+        Kind::BothUsedUp => 0,
     }
 }
 
-// One template is used up, and this is the other's next cell.
+// The kind of a location where one template is used up; `cell` is the other's next cell.
 fn used_before(cell: u8) -> Kind
     requires { ⌜ (cell ≡ 255 → ⊥) ⌝ }
     ensures { λ r. ⌜ (kindOf r ≡ kind used (sideOf cell)) × (kindOf r ≡ kind (sideOf cell) used) ⌝ }
 {
     if cell < FIRST_PLACE {
-        return Kind::UsedLetter;
+        return Kind::UsedUpBeforeLetter;
     }
-    Kind::UsedField
+    Kind::UsedUpBeforeField
 }
 
-// Both templates have a next cell.
+// The kind of a location where neither is used up.
 fn crossing(u: u8, v: u8) -> Kind
     requires { ⌜ (u ≡ 255 → ⊥) × (v ≡ 255 → ⊥) ⌝ }
     ensures { λ r. ⌜ kindOf r ≡ kind (sideOf u) (sideOf v) ⌝ }
@@ -61,14 +61,14 @@ fn crossing(u: u8, v: u8) -> Kind
     if u < FIRST_PLACE {
         if v < FIRST_PLACE {
             if u == v {
-                return Kind::SameLetter;
+                return Kind::SameLetterTwice;
             }
             return Kind::DifferentLetters;
         }
-        return Kind::LetterField;
+        return Kind::LetterThenField;
     }
     if v < FIRST_PLACE {
-        return Kind::FieldLetter;
+        return Kind::FieldThenLetter;
     }
     Kind::TwoFields
 }
@@ -79,7 +79,7 @@ pub fn kind_at(u: u8, v: u8) -> Kind
 {
     if u == USED {
         if v == USED {
-            return Kind::BothUsed;
+            return Kind::BothUsedUp;
         }
         return used_before(v);
     }
@@ -89,10 +89,10 @@ pub fn kind_at(u: u8, v: u8) -> Kind
     crossing(u, v)
 }
 
-// How many clauses it has.
+// How many clauses such a location has.
 pub fn location_count(l: usize, u: u8, v: u8) -> usize
     requires { ⌜ l ≤ 8 ⌝ }
-    ensures { λ n. ⌜ (n ≡ locationCount l (sideOf u) (sideOf v)) × (n ≤ 11) ⌝ }
+    ensures { λ n. ⌜ n ≡ locationCount l (sideOf u) (sideOf v) ⌝ }
 {
     kind_count(l, kind_at(u, v))
 }
@@ -100,8 +100,8 @@ pub fn location_count(l: usize, u: u8, v: u8) -> usize
 // How many different letters there can be.
 const LETTERS: usize = 8;
 
-// What stands on the right of an equation: how many letters and how many places there are, how many times each letter stands there, and how many clauses all
-// letters have where a place is on the left, each its own number.
+// What stands on the right of an equation: how many letters, how many places, how many clauses the letters have together where a place is on the left, and
+// how often each letter stands there. The third is added up letter by letter, so that letters may come to differ in it.
 pub struct Census {
     pub letters: usize,
     pub places: usize,
@@ -109,7 +109,7 @@ pub struct Census {
     pub times: [usize; LETTERS],
 }
 
-// How many times each letter stands there, with letter a once more.
+// How often each letter stands there, with letter a once more.
 fn once_more(times: [usize; LETTERS], a: usize) -> [usize; LETTERS]
     requires { ⌜ (a < 8) × (getD times a 0 ≤ 24) ⌝ }
     ensures { λ r. ⌜ ((b : ℕ) → getD r b 0 ≡ getD times b 0 + asThis b (atLetter a)) ⌝ }
@@ -133,7 +133,7 @@ fn added(l: usize, census: Census, cell: u8) -> Census
         return Census {
             letters: letters + 1,
             places,
-            own: own + kind_count(l, Kind::FieldLetter),
+            own: own + kind_count(l, Kind::FieldThenLetter),
             times: next,
         };
     }
@@ -147,7 +147,7 @@ fn added(l: usize, census: Census, cell: u8) -> Census
 
 // The census of the first n cells.
 pub fn census_of(l: usize, right: [u8; ROOM], n: usize) -> Census
-    requires { ⌜ (l ≤ 8) × (n ≤ 24) × Taken right n ⌝ }
+    requires { ⌜ (l ≤ 8) × (n ≤ 24) × AllCells right n ⌝ }
     ensures { λ r. ⌜ Counted l right n r ⌝ }
 {
     let mut sum = Census {
@@ -164,7 +164,7 @@ pub fn census_of(l: usize, right: [u8; ROOM], n: usize) -> Census
     sum
 }
 
-// So many locations of one kind.
+// The clauses of n locations of one kind.
 fn several(n: usize, l: usize, kind: Kind) -> usize
     requires { ⌜ (n ≤ 24) × (l ≤ 8) ⌝ }
     ensures { λ r. ⌜ (r ≡ n * kindCount l (kindOf kind)) × (r ≤ n * 11) ⌝ }
@@ -172,14 +172,14 @@ fn several(n: usize, l: usize, kind: Kind) -> usize
     n * kind_count(l, kind)
 }
 
-// The clauses of a row of locations with the left template used up: of those with the cells of the census on the right, and past them.
+// The clauses of a row of locations with the left template used up: one location for each cell of the census, and the last, where the right one is used up.
 fn past_row(l: usize, right: Census) -> usize
     requires { ⌜ (l ≤ 8) × Few right ⌝ }
     ensures { λ n. ⌜ (n ≡ rowOf l used right) × (n ≤ 275) ⌝ }
 {
-    several(right.letters, l, Kind::UsedLetter)
-        + several(right.places, l, Kind::UsedField)
-        + several(1, l, Kind::BothUsed)
+    several(right.letters, l, Kind::UsedUpBeforeLetter)
+        + several(right.places, l, Kind::UsedUpBeforeField)
+        + several(1, l, Kind::BothUsedUp)
 }
 
 // The same with letter a on the left.
@@ -189,10 +189,10 @@ fn letter_row(l: usize, a: u8, right: Census) -> usize
 {
     let times = right.times;
     let same = times[wide(a)];
-    several(same, l, Kind::SameLetter)
+    several(same, l, Kind::SameLetterTwice)
         + several(right.letters - same, l, Kind::DifferentLetters)
-        + several(right.places, l, Kind::LetterField)
-        + several(1, l, Kind::UsedLetter)
+        + several(right.places, l, Kind::LetterThenField)
+        + several(1, l, Kind::UsedUpBeforeLetter)
 }
 
 // The same with a place on the left.
@@ -200,7 +200,7 @@ fn open_row(l: usize, right: Census) -> usize
     requires { ⌜ (l ≤ 8) × Few right ⌝ }
     ensures { λ n. ⌜ (n ≡ rowOf l atField right) × (n ≤ 275) ⌝ }
 {
-    right.own + several(right.places, l, Kind::TwoFields) + several(1, l, Kind::UsedField)
+    right.own + several(right.places, l, Kind::TwoFields) + several(1, l, Kind::UsedUpBeforeField)
 }
 
 // The clauses of a row of locations with u on the left.

@@ -8,7 +8,7 @@ use Rattle.model.specs.Sheet.{sheetOf}
 use Rattle.formula.specs.Clause.{leftCells}
 use Rattle.formula.specs.Count.{rowCount}
 use Rattle.model.proofs.Keeping.{total-more, total-none}
-use Rattle.counting.proofs.Laws.{row-found, equation-known}
+use Rattle.counting.proofs.Laws.{survey-few, row-found, equation-known}
 use Rattle.counting.proofs.equation_count.Statement.{statement}
 use Rattle.counting.proofs.equation_count.Tie as tie
 
@@ -51,7 +51,7 @@ row-count-requires c κs =
     let at-survey = c .before .before in
     let at-letters = at-survey .before .before .before in
     let at-start = at-letters .before .before in
-    (omega (arith, at-letters .letters .ensures, at-start .pre .0 .1 .counts-in .of-letters), at-survey .survey .ensures .few)
+    (omega (arith, at-letters .letters .ensures, at-start .pre .0 .1 .counts-in .of-letters), survey-few (sheetOf (at-start .args .sheet .now)) (at-start .pre .0 .1) (at-start .args .p) (at-start .pre .1) (at-survey .survey .result) (at-survey .survey .ensures))
 
 add-sum : tie.Need-add-sum Inv-loop μ-loop
 add-sum c =
@@ -77,7 +77,7 @@ loop-again c =
     let at-start = at-letters .before .before in
     let s = sheetOf (at-start .args .sheet .now) in
     let more = total-more (l .i) (rowCount s (at-start .args .p)) in
-    let this = c .row-count .ensures .0 ∙ row-found s (at-start .args .p) (at-survey .survey .result) (at-survey .survey .ensures) (at-letters .letters .result) (at-side .side .result) (at-letters .letters .ensures) (at-side .side .ensures) (l .i) (omega (arith, at-width .width .ensures)) in
+    let this = c .row-count .ensures .0 ∙ row-found s (at-start .pre .0 .1) (at-start .args .p) (at-start .pre .1) (at-survey .survey .result) (at-survey .survey .ensures) (at-letters .letters .result) (at-side .side .result) (at-letters .letters .ensures) (at-side .side .ensures) (l .i) (omega (arith, at-width .width .ensures)) in
     (omega arith, omega (arith, l .inv), omega (arith, l .inv, c .row-count .ensures))
 
 returns : tie.Need-returns Inv-loop μ-loop

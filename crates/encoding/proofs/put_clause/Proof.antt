@@ -1,5 +1,5 @@
 -- `encoding::put_clause` meets its contract. Assumes nothing.
-use mathlib.Core.Path.{_≡_, sym, ap, subst, _∙_}
+use mathlib.Core.Path.{_≡_, refl, sym, ap, subst, _∙_}
 use Prim.Native.Nat.{suc, _+_, _<_}
 use native.Mathlib.Omega.{arith}
 use lib.ListN.{length}
@@ -71,7 +71,7 @@ returns c =
     let a = at-find .before .before .before .args in
     let s = sheetOf (a .sheet .now) in
     let told = subst (Sought s 0 (length (ids s)) (a .n)) (c .enum-told .given .1) (at-find .find .ensures) in
-    omega (arith, told)
+    (omega (arith, told), refl)
 
 same-length : tie.Need-same-length
 same-length c = search needs

@@ -93,7 +93,7 @@ returns-3 c =
     let at-put = c .before .before .before in
     let a = at-put .before .before .before .before .before .before .before .args in
     let above = subst (λ r. LineWritten (sheetOf (a .sheet .now)) (a .n) (replicate 80 0) r (at-put .put-line .last .0)) (c .enum-told2 .given .1) (at-put .put-line .ensures) in
-    leaves-all 28 (a .buf .now) (writing-above (a .sheet .now) (a .n) (length (a .buf .now)) (ready (at-put .before .before) .0) above)
+    leaves-all 28 (a .buf .now) (writing-above (a .sheet .now) (a .n) (length (a .buf .now)) (ready (at-put .before .before) .0) (above .0))
 
 same-length : tie.Need-same-length
 same-length c = search needs

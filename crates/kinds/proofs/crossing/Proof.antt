@@ -2,7 +2,7 @@
 use mathlib.Core.Path.{sym, ap, ap₂, _∙_}
 use borrow.Author.Tests.{eq-eqb, ne-eqb}
 use Rattle.model.specs.Lists.{pick}
-use Rattle.formula.specs.Kind.{sameLetter, differentLetters, kind}
+use Rattle.formula.specs.Kind.{sameLetterTwice, differentLetters, kind}
 use Rattle.shape.proofs.Sides.{says-letter, says-field}
 use Rattle.kinds.proofs.crossing.Statement.{statement}
 use Rattle.kinds.proofs.crossing.Tie as tie
@@ -13,7 +13,7 @@ returns c =
     let u = at-start .args .u in
     let v = at-start .args .v in
     sym (ap₂ kind (says-letter u (c .before .before .if1 .taken)) (says-letter v (c .before .if2 .taken))
-    ∙ ap (λ b. pick b sameLetter differentLetters) (eq-eqb u v (c .if3 .taken)))
+    ∙ ap (λ b. pick b sameLetterTwice differentLetters) (eq-eqb u v (c .if3 .taken)))
 
 returns-2 : tie.Need-returns-2
 returns-2 c =
@@ -21,7 +21,7 @@ returns-2 c =
     let u = at-start .args .u in
     let v = at-start .args .v in
     sym (ap₂ kind (says-letter u (c .before .before .if1 .taken)) (says-letter v (c .before .if2 .taken))
-    ∙ ap (λ b. pick b sameLetter differentLetters) (ne-eqb u v (c .if3 .left)))
+    ∙ ap (λ b. pick b sameLetterTwice differentLetters) (ne-eqb u v (c .if3 .left)))
 
 returns-3 : tie.Need-returns-3
 returns-3 c =

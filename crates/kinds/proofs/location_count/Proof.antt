@@ -14,7 +14,7 @@ kind-count-requires c κs = search needs
 returns : tie.Need-returns
 returns c =
     let at-start = c .before .before in
-    (c .kind-count .ensures .0 ∙ ap (kindCount (at-start .args .l)) (c .before .kind-at .ensures), c .kind-count .ensures .1)
+    c .kind-count .ensures .0 ∙ ap (kindCount (at-start .args .l)) (c .before .kind-at .ensures)
 
 pub location-count-spec : {M : Type 1} → statement M
 location-count-spec = tie.close (tie.spec kind-at-requires kind-count-requires returns)

@@ -8,7 +8,7 @@ use Rattle.model.specs.Sheet.{sheetOf}
 use Rattle.formula.specs.Clause.{leftCells}
 use Rattle.formula.specs.Count.{rowCount, equationStart}
 use Rattle.formula.proofs.Small.{letters-few}
-use Rattle.counting.proofs.Laws.{row-found, equation-known}
+use Rattle.counting.proofs.Laws.{survey-few, row-found, equation-known}
 use Rattle.locating.proofs.Laws.{at-first, at-next, never-past, same-number, start-found}
 use Rattle.locating.proofs.in_equation.Statement.{statement}
 use Rattle.locating.proofs.in_equation.Tie as tie
@@ -72,7 +72,7 @@ row-count-requires c κs =
     let at-letters = c .before .before .before .before .before .before .letters in
     let at-survey = c .before .before .before .before .survey in
     let s = sheetOf (at-start .args .sheet .now) in
-    (omega (arith, at-letters .ensures, letters-few s (at-start .pre .0 .1)), at-survey .ensures .few)
+    (omega (arith, at-letters .ensures, letters-few s (at-start .pre .0 .1)), survey-few s (at-start .pre .0 .1) (at-start .args .p) (at-start .pre .1) (at-survey .result) (at-survey .ensures))
 
 -- how many clauses the row has
 the-size : (c : tie.After-row-count Inv-loop μ-loop) →
@@ -86,7 +86,7 @@ the-size c =
     let at-survey = c .before .before .before .before .before .survey in
     let at-side = c .before .before .before .before .side in
     let s = sheetOf (at-start .args .sheet .now) in
-    c .row-count .ensures .0 ∙ row-found s (at-start .args .p) (at-survey .result) (at-survey .ensures) (at-letters .result) (at-side .result) (at-letters .ensures) (at-side .ensures) (at-loop .i) (omega (arith, at-width .ensures))
+    c .row-count .ensures .0 ∙ row-found s (at-start .pre .0 .1) (at-start .args .p) (at-start .pre .1) (at-survey .result) (at-survey .ensures) (at-letters .result) (at-side .result) (at-letters .ensures) (at-side .ensures) (at-loop .i) (omega (arith, at-width .ensures))
 
 array-read-in-row : tie.Need-array-read-in-row Inv-loop μ-loop
 array-read-in-row c =

@@ -54,7 +54,7 @@ the-size c =
     let at-loop = c .before .before .loop in
     let at-width = c .before .before .before .width in
     let s = sheetOf (at-start .args .sheet .now) in
-    c .location-count .ensures .0 ∙ location-known s (at-start .pre .0 .1) (at-start .args .p) (at-start .pre .1) (at-start .args .i) (at-start .pre .2) (at-letters .result) (at-start .args .u) (at-start .args .t5) (at-letters .ensures) (at-start .pre .3) (at-start .pre .4) (at-loop .j) (omega (arith, at-width .ensures .0))
+    c .location-count .ensures ∙ location-known s (at-start .pre .0 .1) (at-start .args .p) (at-start .pre .1) (at-start .args .i) (at-start .pre .2) (at-letters .result) (at-start .args .u) (at-start .args .t5) (at-letters .ensures) (at-start .pre .3) (at-start .pre .4) (at-loop .j) (omega (arith, at-width .ensures .0))
 
 array-read-at-location : tie.Need-array-read-at-location Inv-loop μ-loop
 array-read-at-location c =
@@ -69,7 +69,7 @@ at-location-requires c κs =
     let at-width = c .before .before .before .before .width in
     let s = sheetOf (at-start .args .sheet .now) in
     let sides = sides-known s (at-start .pre .0 .1) (at-start .args .p) (at-start .pre .1) (at-start .args .i) (at-start .pre .2) (at-letters .result) (at-start .args .u) (at-start .args .t5) (at-letters .ensures) (at-start .pre .3) (at-start .pre .4) (at-loop .j) (omega (arith, at-width .ensures .0)) in
-    (omega (arith, at-letters .ensures, letters-few s (at-start .pre .0 .1)), sides .0, sides .1, subst (λ n. at-loop .rest < n) (c .before .location-count .ensures .0) (c .if1 .taken))
+    (omega (arith, at-letters .ensures, letters-few s (at-start .pre .0 .1)), sides .0, sides .1, subst (λ n. at-loop .rest < n) (c .before .location-count .ensures) (c .if1 .taken))
 
 returns : tie.Need-returns Inv-loop μ-loop
 returns c =
