@@ -36,7 +36,7 @@ not-past : (u : Cell) → cellSide u ≡ used → ⊥
 not-past (letter a) e = let z : _≡_ {A = ℕ} 0 1 = cc in omega arith
 not-past (place f c) e = let z : _≡_ {A = ℕ} 0 1 = cc in omega arith
 
--- as much of the census of that side as is asked
+-- the census of that side, as `counting::survey` promises it
 abbrev pub Survey : Sheet → ℕ → Census → Type 0
 Survey s p c = Counted (blank s) (sideBytes (rightCells s p)) (length (rightCells s p)) c
 
