@@ -47,8 +47,8 @@ module _ (s : Sheet) (ok : InRange s) (p : ℕ) (h : p < length (s .equations)) 
   abbrev n : ℕ
   n = length (rightCells s p)
 
-  right-taken : AllCells right n
-  right-taken j k e =
+  right-cells : AllCells right n
+  right-cells j k e =
       let few = cells-small s ok p h .1 in
       let there = lt-ltb j n k in
       let at : side (rightCells s p) j ≡ used = sym (side-at s ok p h 1 j (omega arith)) ∙ e in
@@ -59,9 +59,9 @@ module _ (s : Sheet) (ok : InRange s) (p : ℕ) (h : p < length (s .equations)) 
       let few = cells-small s ok p h .1 in
       side-at s ok p h 1 n few ∙ rw (le-ltb n n (omega arith))
 
-  -- what is asked of the bytes, and of the census that is made of them, by whatever is equal to these
-  pub cells-taken : (bytes : List ℕ) (m : ℕ) → bytes ≡ right → m ≡ n → AllCells bytes m
-  cells-taken bytes m eb em = rw (eb, em) right-taken
+  -- The same of bytes and numbers that are equal to these: what a census asks of them, and what it then is.
+  pub bytes-cells : (bytes : List ℕ) (m : ℕ) → bytes ≡ right → m ≡ n → AllCells bytes m
+  bytes-cells bytes m eb em = rw (eb, em) right-cells
 
   pub counted-right : (l : ℕ) (bytes : List ℕ) (m : ℕ) (c : Census) → l ≡ blank s → bytes ≡ right → m ≡ n → Counted l bytes m c → Survey s p c
   counted-right l bytes m c el eb em d = rw (el, eb, em) at d
@@ -77,7 +77,7 @@ module _ (s : Sheet) (ok : InRange s) (p : ℕ) (h : p < length (s .equations)) 
         let few = cells-small s ok p h .1 in
         let u : ℕ = getD (sideBytes (leftCells s p)) i 0 in
         ap₂ (λ b x. rowOf b (sideOf (getD x i 0)) c) el ea
-        ∙ row-counted (blank s) right n c d right-taken right-past (sideOf u) (letter-below u)
+        ∙ row-counted (blank s) right n c d right-cells right-past (sideOf u) (letter-below u)
         ∙ total-same (suc n) _ (locationSize s p i) (λ j m. ap₂ (locationCount (blank s)) (side-at s ok p h 0 i k) (side-at s ok p h 1 j (omega arith)))
 
 pub equation-known : (s : Sheet) (p : ℕ) → equationCount s p ≡ 1 + total (suc (length (leftCells s p))) (rowCount s p)

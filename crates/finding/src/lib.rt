@@ -98,11 +98,11 @@ fn in_section(sheet: &[u8], section: Section, n: usize) -> Found
     let mut rest = n;
     let mut i: usize = 0;
     while i < parts {
-        let size = counting::part_count(sheet, section, i);
-        if rest < size {
+        let clauses = counting::part_count(sheet, section, i);
+        if rest < clauses {
             return Found::Clause(in_part(sheet, section, i, rest));
         }
-        rest = rest - size;
+        rest = rest - clauses;
         i += 1;
     }
     Found::Past(rest)

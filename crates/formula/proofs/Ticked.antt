@@ -11,19 +11,16 @@ use Rattle.model.specs.Lists.{pick, keep, total}
 use Rattle.model.specs.Sheet.{Sheet, limit, constraint}
 use Rattle.model.specs.Range.{WellFormed}
 use Rattle.formula.specs.Clause.{stays, ids, locationIds, least, spread, sums, blank, fields, leftCells, rightCells}
-use Rattle.formula.specs.Kind.{Kind, sameLetterTwice, differentLetters, letterThenField, fieldThenLetter, twoFields, usedUpBeforeLetter, usedUpBeforeField, bothUsedUp, side, kindCount, kindAt, sameKind, locationsOf, ticked}
+use Rattle.formula.specs.Kind.{Kind, sameLetterTwice, differentLetters, letterThenField, fieldThenLetter, twoFields, usedUpBeforeLetter, usedUpBeforeField, bothUsedUp, kindCount, kindAt, sameKind, locationsOf, ticked}
 use Rattle.formula.specs.Count.{notBothCount, equationCount, stepCount, within, constraintCount, kClauses, clauseCount, addedUp}
 use Rattle.model.proofs.Keeping.{length-map-from, total-const, total-same}
-use Rattle.formula.proofs.Standing.{sides-in, standing-is, standing-count}
-use Rattle.formula.proofs.Totals.{over-limit, clause-count}
+use Rattle.formula.proofs.Standing.{standing-is}
+use Rattle.formula.proofs.Totals.{over-limit, location-count, clause-count}
 
 -- Of every location of every sheet, with any number of letters: the clauses that document 01 lists there and does not leave out.
 pub location-kind : (s : Sheet) → WellFormed s → (p : ℕ) → p < length (s .equations) → (i j : ℕ) → i ≤ length (leftCells s p) → j ≤ length (rightCells s p)
     → length (keep (stays s) (locationIds s p (length (leftCells s p)) (length (rightCells s p)) i j)) ≡ kindCount (blank s) (kindAt s p i j)
-location-kind s ok p hp i j hi hj =
-    let r = sides-in s ok p hp i j in
-    ap length (standing-is s ok p hp i j hi hj)
-    ∙ standing-count (blank s) p i j (side (leftCells s p) i) (side (rightCells s p) j) (r .0) (r .1)
+location-kind s ok p hp i j hi hj = ap length (standing-is s ok p hp i j hi hj) ∙ location-count s ok p hp i j
 
 -- Sums over the kinds, with any number for each of them.
 module _ (w : Kind → ℕ) where

@@ -16,6 +16,7 @@ use Rattle.kinds.specs.Census.{asLetter, asPlace, asThis, ownOf, timesOf
 use Rattle.kinds.specs.declared.Census.{Census}
 use Rattle.model.proofs.Lists.{by-test}
 use Rattle.model.proofs.Keeping.{total-more, total-none}
+use Rattle.formula.proofs.Small.{total-grows}
 use Rattle.shape.proofs.Sides.{says-letter, says-field}
 
 -- A row with a letter on the left is small.
@@ -79,9 +80,7 @@ module _ (v : ℕ → Side) where
   cells-few (suc n) = omega (arith, cells-few n, one-cell (v n))
 
   this-few : (a n : ℕ) → total n (λ j. asThis a (v j)) ≤ total n (λ j. asLetter (v j))
-  unfolding total
-  this-few a zero = omega arith
-  this-few a (suc n) = omega (arith, this-few a n, this-letter a (v n))
+  this-few a n = total-grows n n (λ j. asThis a (v j)) (λ j. asLetter (v j)) (omega arith) (λ j _. this-letter a (v j))
 
   own-few : (l : ℕ) → l ≤ 8 → (n : ℕ) → total n (λ j. ownOf l (v j)) ≤ total n (λ j. asLetter (v j)) * 9
   unfolding total

@@ -2,7 +2,7 @@
 use native.Mathlib.Omega.{arith}
 use borrow.Author.Needs.{needs}
 use Rattle.model.specs.Sheet.{sheetOf}
-use Rattle.counting.proofs.Laws.{cells-taken, counted-right}
+use Rattle.counting.proofs.Laws.{bytes-cells, counted-right}
 use Rattle.counting.proofs.survey.Statement.{statement}
 use Rattle.counting.proofs.survey.Tie as tie
 
@@ -21,7 +21,7 @@ census-of-requires c κs =
     let at-letters = at-width .before in
     let at-start = at-letters .before .before in
     let s = sheetOf (at-start .args .sheet .now) in
-    (omega (arith, at-letters .letters .ensures, at-start .pre .0 .1 .counts-in .of-letters), at-width .width .ensures .1, cells-taken s (at-start .pre .0 .1) (at-start .args .p) (at-start .pre .1) (c .side .result) (at-width .width .result) (c .side .ensures) (at-width .width .ensures .0))
+    (omega (arith, at-letters .letters .ensures, at-start .pre .0 .1 .counts-in .of-letters), at-width .width .ensures .1, bytes-cells s (at-start .pre .0 .1) (at-start .args .p) (at-start .pre .1) (c .side .result) (at-width .width .result) (c .side .ensures) (at-width .width .ensures .0))
 
 returns : tie.Need-returns
 returns c =
