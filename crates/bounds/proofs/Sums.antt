@@ -3,7 +3,7 @@ use mathlib.Core.List.{List}
 use Prim.Native.Nat.{ℕ, _<_, _≤_}
 use native.Mathlib.Omega.{arith}
 use lib.ListN.{getD}
-use Rattle.formula.proofs.Small.{total-grows}
+use Rattle.model.proofs.Keeping.{total-grows}
 use Rattle.bounds.specs.Bounds.{sumOf}
 
 -- a sum of lengths that are nowhere greater is not greater

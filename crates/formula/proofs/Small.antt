@@ -1,5 +1,5 @@
 -- How small the numbers of a sheet in range are: sums, cells, variables and clauses. Assumes nothing.
-use mathlib.Core.Path.{_≡_, sym}
+use mathlib.Core.Path.{_≡_}
 use mathlib.Core.Bool.{Bool, true, false}
 use mathlib.Core.List.{[]}
 use Prim.Native.Nat.{ℕ, zero, suc, _+_, _-_, _*_, _<_, _≤_}
@@ -17,25 +17,12 @@ use Rattle.formula.specs.Numbering.{kSize, sSize, rowSize, tSize, kCount
 use Rattle.formula.specs.Kind.{Kind, sameLetterTwice, differentLetters, letterThenField, fieldThenLetter, twoFields, usedUpBeforeLetter, usedUpBeforeField, bothUsedUp, kindCount, kindAt}
 use Rattle.formula.specs.Count.{notBothCount, placeCount, fieldCount, locationSize, rowCount, equationCount, stepCount, constraintCount, kClauses, sClauses, clauseCount, Section, ofFields, ofEquations, ofConstraints, parts, variableCounts}
 use Rattle.model.proofs.Lists.{by-test, at}
-use Rattle.model.proofs.Keeping.{total-const}
+use Rattle.model.proofs.Keeping.{total-const, total-grows}
 use Rattle.model.proofs.Values.{cells-width}
 use Rattle.model.proofs.Sums.{abs-add, product-small, coefficient-small}
 use Rattle.model.proofs.Templates.{template-in}
 
 -- A total of at most m parts, each at most as great as another, or as one number.
-pub total-grows : (n m : ℕ) (h g : ℕ → ℕ) → n ≤ m → ((i : ℕ) → i < n → h i ≤ g i) → total n h ≤ total m g
-unfolding total
-total-grows zero m h g l f = omega arith
-total-grows (suc n) zero h g l f = absurd (omega arith)
-total-grows (suc n) (suc m) h g l f = by-test (ltb n m)
-    (λ e. let k = ltb-true n m e in let q = total-grows (suc n) m h g k f in omega arith)
-    (λ e.
-    let k = ltb-false n m e in
-    let same : n ≡ m = omega arith in
-    let before = total-grows n m h g (omega arith) (λ i j. f i (omega arith)) in
-    let this : h n ≤ g m = rw (sym same) (f n (omega arith)) in
-    omega arith)
-
 total-part : (n m : ℕ) (h : ℕ → ℕ) → n ≤ m → total n h ≤ total m h
 total-part n m h l = total-grows n m h h l (λ i _. omega arith)
 

@@ -7,10 +7,10 @@ use native.Mathlib.Nat.{suc-mul}
 use native.Mathlib.Numerals.{add-one}
 use native.Mathlib.Omega.{arith}
 use lib.Arith.{lt-of-le-ne}
-use lib.Dec.{eqb}
+use lib.Dec.{ltb, eqb}
 use lib.ListN.{length, getD, length-append, length-map, List·getD-append}
 use lib.Seq.{getD-append-add}
-use borrow.Author.Tests.{eqb-true, eqb-false}
+use borrow.Author.Tests.{ltb-true, ltb-false, eqb-true, eqb-false}
 use Rattle.model.specs.Lists.{each, from, upTo, all, any, when, keep, total, All}
 use Rattle.model.proofs.Lists.{never, by-test, or-left, or-right, append-in, append-out, map-in, each-in, each-out, each-same, below-out, from-more, all-out, all-in}
 
@@ -156,7 +156,7 @@ module _ {A : Type 0} (t : A → Bool) where
       ap (λ z. when (t x) (x ∷ []) ++ z) (keep-append xs ys)
       ∙ sym (append-assoc (when (t x) (x ∷ [])) (keep t xs) (keep t ys))
 
-  keep-each : {B : Type 0} (xs : List B) (f : B → List A) → keep t (each xs f) ≡ each xs (λ x. keep t (f x))
+  pub keep-each : {B : Type 0} (xs : List B) (f : B → List A) → keep t (each xs f) ≡ each xs (λ x. keep t (f x))
   unfolding keep each
   keep-each [] f = refl
   keep-each (x ∷ xs) f = keep-append (f x) (each xs f) ∙ ap (λ z. keep t (f x) ++ z) (keep-each xs f)
@@ -307,6 +307,20 @@ total-none h = refl
 pub total-more : (n : ℕ) (h : ℕ → ℕ) → total (n + 1) h ≡ total n h + h n
 unfolding total
 total-more n h = rw add-one
+
+-- a total of no more parts, each at most as great
+pub total-grows : (n m : ℕ) (h g : ℕ → ℕ) → n ≤ m → ((i : ℕ) → i < n → h i ≤ g i) → total n h ≤ total m g
+unfolding total
+total-grows zero m h g l f = omega arith
+total-grows (suc n) zero h g l f = absurd (omega arith)
+total-grows (suc n) (suc m) h g l f = by-test (ltb n m)
+    (λ e. let k = ltb-true n m e in let q = total-grows (suc n) m h g k f in omega arith)
+    (λ e.
+    let k = ltb-false n m e in
+    let same : n ≡ m = omega arith in
+    let before = total-grows n m h g (omega arith) (λ i j. f i (omega arith)) in
+    let this : h n ≤ g m = rw (sym same) (f n (omega arith)) in
+    omega arith)
 
 -- a place in a part is a place in the whole
 pub total-fits : (n : ℕ) (h : ℕ → ℕ) (i k : ℕ) → i < n → k < h i → total i h + k < total n h

@@ -14,10 +14,10 @@ use Rattle.model.specs.Range.{CountsIn}
 use Rattle.model.proofs.Lists.{never, and-split, and-join}
 use Rattle.model.proofs.Steps.{same-got, held, longer, Within}
 
-between-in : (low high n : ℕ) → low ≤ n → n ≤ high → between low high n ≡ true
+pub between-in : (low high n : ℕ) → low ≤ n → n ≤ high → between low high n ≡ true
 between-in low high n h g = and-join (le-leb low n h) (le-leb n high g)
 
-between-out : (low high n : ℕ) → between low high n ≡ true → (low ≤ n) × (n ≤ high)
+pub between-out : (low high n : ℕ) → between low high n ≡ true → (low ≤ n) × (n ≤ high)
 between-out low high n h =
     let a = and-split (leb low n) (leb n high) h in
     (leb-true low n (a .0), leb-true n high (a .1))
@@ -87,7 +87,7 @@ opening-exact b h =
     })
 
 -- no further
-starts-longer : (ps xs ys : List ℕ) → length ps ≤ length xs → startsWith ps (xs ++ ys) ≡ startsWith ps xs
+pub starts-longer : (ps xs ys : List ℕ) → length ps ≤ length xs → startsWith ps (xs ++ ys) ≡ startsWith ps xs
 unfolding startsWith
 starts-longer [] xs ys h = refl
 starts-longer (p ∷ ps) [] ys h = absurd (omega arith)

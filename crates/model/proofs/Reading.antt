@@ -137,7 +137,7 @@ stages c xs h =
     })
 
 -- n of a kind, and what each keeps to, whatever numbers stand in the list
-times-several : {A : Type 0} (P : A → Type 0) (one : List ℕ → Step A) → ((xs : List ℕ) (a : A) (zs : List ℕ) → one xs ≡ got a zs → P a) → (n : ℕ) (xs : List ℕ) {more : List A} {zs : List ℕ} → times n one xs ≡ got more zs → Several P n more
+pub times-several : {A : Type 0} (P : A → Type 0) (one : List ℕ → Step A) → ((xs : List ℕ) (a : A) (zs : List ℕ) → one xs ≡ got a zs → P a) → (n : ℕ) (xs : List ℕ) {more : List A} {zs : List ℕ} → times n one xs ≡ got more zs → Several P n more
 unfolding times All
 times-several P one f zero xs h = same-got (λ more zs. Several P 0 more) h (refl, tt)
 times-several P one f (suc n) xs h =

@@ -40,7 +40,7 @@ found (got a xs) h = record { value = a; is = ap (got a) (got-rest h) }
 found (fault k) h = no-fault h
 
 -- a row that is read is the bytes that stand there
-row-value : (role : Role) (before n : ℕ) (xs : List ℕ) {us ys : List ℕ} → row role before n xs ≡ got us ys → us ≡ take n xs
+pub row-value : (role : Role) (before n : ℕ) (xs : List ℕ) {us ys : List ℕ} → row role before n xs ≡ got us ys → us ≡ take n xs
 row-value role before n xs {us} {ys} h =
     let r = row-exact role before n xs h in
     sym (ap (take n) (r .bytes) ∙ take-at us ys n (r .count))

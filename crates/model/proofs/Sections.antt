@@ -87,7 +87,7 @@ module _ (l v : ℕ) (small : l ≤ 128) where
   pub symbols-again : (t : List Symbol) → All (SymbolIn l v) t → map symbolOf (map symbolByte t) ≡ t
   symbols-again t h = map-back (SymbolIn l v) symbolByte symbolOf t symbol-again h
 
-symbols-back : (xs : List ℕ) → map symbolByte (map symbolOf xs) ≡ xs
+pub symbols-back : (xs : List ℕ) → map symbolByte (map symbolOf xs) ≡ xs
 symbols-back [] = refl
 symbols-back (x ∷ xs) = rw (symbol-back x, symbols-back xs)
 
@@ -98,7 +98,7 @@ counts-pass m n h k = and-join (le-leb m 12 h) (and-join (le-leb n 12 k) refl)
 
 module _ (l : ℕ) (limits : List ℕ) (small : l ≤ 128) where
   -- one template's symbols, read back
-  template-reads : (t : List Symbol) (zs : List ℕ) → TemplateIn l limits t → row (templateByte l (length limits)) 0 (length t) (map symbolByte t ++ zs) ≡ got (map symbolByte t) zs
+  pub template-reads : (t : List Symbol) (zs : List ℕ) → TemplateIn l limits t → row (templateByte l (length limits)) 0 (length t) (map symbolByte t ++ zs) ≡ got (map symbolByte t) zs
   template-reads t zs h =
       ap (λ n. row (templateByte l (length limits)) 0 n (map symbolByte t ++ zs)) (sym (length-map t symbolByte))
       ∙ row-reads (templateByte l (length limits)) 0 (map symbolByte t) zs (symbols-pass l (length limits) small t (h .symbols))
@@ -180,7 +180,7 @@ module _ (l : ℕ) (limits : List ℕ) (small : l ≤ 128) where
         ap (λ l. l ++ (us ++ (ws ++ xs3))) (two counts nc)
         ∙ rw (length-map us symbolOf, length-map ws symbolOf, symbols-back us, symbols-back ws, nu, nw, append-assoc us ws xs3)
 
-  template-in : (n : ℕ) (us : List ℕ) → length us ≡ n → n ≤ 12 → allPass (templateByte l (length limits)) 0 us ≡ true → leb (width limits (map symbolOf us)) 24 ≡ true → TemplateIn l limits (map symbolOf us)
+  pub template-in : (n : ℕ) (us : List ℕ) → length us ≡ n → n ≤ 12 → allPass (templateByte l (length limits)) 0 us ≡ true → leb (width limits (map symbolOf us)) 24 ≡ true → TemplateIn l limits (map symbolOf us)
   template-in n us e h p w = record {
     symbols = symbols-in l (length limits) small us p;
     count = rw (length-map us symbolOf) (omega arith);

@@ -2,7 +2,7 @@
 ghost use mathlib.Core.Path.{_≡_};
 ghost use Prim.Native.Nat.{_+_, _<_, _≤_};
 ghost use lib.ListN.{length, take, drop};
-ghost use Rattle.model.specs.Lists.{startsWith, span};
+ghost use Rattle.model.specs.Lists.{between, startsWith, span};
 ghost use Rattle.model.specs.Sheet.{signed8, signed16};
 
 // Whether s starts with these bytes.
@@ -44,6 +44,16 @@ pub fn stretch<'a>(sheet: &'a [u8], at: usize, n: usize) -> &'a [u8]
 {
     let end = at + n;
     &sheet[at..end]
+}
+
+// Whether a byte is from the one number to the other, both included.
+pub fn in_range(low: u8, high: u8, n: u8) -> bool
+    ensures { λ r. ⌜ r ≡ between low high n ⌝ }
+{
+    if n < low {
+        return false;
+    }
+    n <= high
 }
 
 // A byte as a number.

@@ -40,7 +40,7 @@ fn cells_of(limits: &[u8], x: u8) -> usize
 }
 
 // The width of a template: its letters plus the limits of its fields, repeats counted.
-fn width_of(limits: &[u8], symbols: &[u8]) -> usize
+pub fn width_of(limits: &[u8], symbols: &[u8]) -> usize
     requires { ⌜ length (now symbols) ≤ 256 ⌝ }
     ensures { λ r. ⌜ r ≡ width (now (limits .entry)) (map symbolOf (now (symbols .entry))) ⌝ }
 {

@@ -9,13 +9,13 @@ use scan::HEADER;
 use scan::LETTER_COUNT;
 use scan::VERSION_HIGH;
 use scan::VERSION_LOW;
+use scan::in_range;
 use scan::starts_with;
 use scan::wide;
 use sections::walked;
 ghost use mathlib.Core.Path.{_≡_};
 ghost use Prim.Native.Nat.{_≤_};
 ghost use lib.ListN.{length, drop};
-ghost use Rattle.model.specs.Lists.{between};
 ghost use Rattle.calls.specs.Calls.{readingOf, reading};
 ghost use Rattle.model.specs.Sheet.{ended, opening};
 ghost use Rattle.model.specs.Sheet as model;
@@ -83,16 +83,6 @@ const MOST_FIELDS: u8 = 6;
 const MOST_EQUATIONS: u8 = 4;
 
 const MOST_CONSTRAINTS: u8 = 4;
-
-// Whether a count is from the one number to the other.
-fn in_range(low: u8, high: u8, n: u8) -> bool
-    ensures { λ r. ⌜ r ≡ between low high n ⌝ }
-{
-    if n < low {
-        return false;
-    }
-    n <= high
-}
 
 // The header alone: its four counts, or the first of the refusals 1 to 7.
 fn header(sheet: &[u8]) -> Reading

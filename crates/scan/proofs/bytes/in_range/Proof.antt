@@ -1,7 +1,7 @@
--- `sheet::in_range` meets its contract. Assumes nothing.
+-- `scan::bytes::in_range` meets its contract. Assumes nothing.
 use borrow.Author.Tests.{le-leb, lt-leb}
-use Rattle.sheet.proofs.in_range.Statement.{statement}
-use Rattle.sheet.proofs.in_range.Tie as tie
+use Rattle.scan.proofs.bytes.in_range.Statement.{statement}
+use Rattle.scan.proofs.bytes.in_range.Tie as tie
 
 returns : tie.Need-returns
 returns c =

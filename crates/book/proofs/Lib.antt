@@ -1,0 +1,6 @@
+pub mod Computed
+pub mod Reading
+pub mod Rests
+pub mod Places
+pub mod Question
+pub mod Listed

@@ -1,0 +1,2 @@
+pub mod Book
+pub mod Pairs

@@ -1,0 +1,53 @@
+-- What a book asks (document 02, No. 3): the question of two templates, and the list of those that clash.
+use mathlib.Core.Bool.{Bool}
+use mathlib.Core.List.{List, [], _∷_, _++_, map}
+use Prim.Native.Nat.{ℕ, suc, _+_, _-_, _<_}
+use mathlib.Core.Path.{_≡_}
+use lib.ListN.{length}
+use Rattle.model.specs.Lists.{each, from, upTo, keep}
+use Rattle.model.specs.Sheet.{Symbol, letter, field, Equation, Sheet}
+use Rattle.model.specs.Solvable.{solvable}
+use Rattle.book.specs.Book.{Template, Book, template}
+
+-- "j's fields numbered after i's", of which there are n
+abbrev pub numberedAfter : ℕ → Symbol → Symbol
+numberedAfter n (letter a) = letter a
+numberedAfter n (field f) = field (n + f)
+
+-- "the question is the sheet with template i on the left and j on the right, j's fields numbered after i's, without rules": of two templates and
+-- the book's letters
+unfoldable pub asked : List ℕ → Template → Template → Sheet
+asked letters t u = record {
+  letters = letters;
+  limits = t .limits ++ u .limits;
+  equations = record { left = t .symbols; right = map (numberedAfter (length (t .limits))) (u .symbols) } ∷ [];
+  constraints = [];
+}
+
+abbrev pub question : Book → ℕ → ℕ → Sheet
+question k i j = asked (k .letters) (template k i) (template k j)
+
+-- Two templates clash when their question has a filling that clashes.
+abbrev pub clash : Book → ℕ → ℕ → Bool
+clash k i j = solvable (question k i j)
+
+-- "For i below j": a pair of templates, and all of them, "by i then j", of n templates.
+pub record Pair : Type 0 where
+  pub first : ℕ
+  pub second : ℕ
+
+unfoldable pub pairs : ℕ → List Pair
+pairs n = each (upTo n) (λ i. map (λ j. record { first = i; second = j }) (from (suc i) (n - suc i)))
+
+-- "The answer lists each clashing (i, j) once, by i then j .. . It lists all of them and no others".
+unfoldable pub clashing : Book → List Pair
+clashing k = keep (λ p. clash k (p .first) (p .second)) (pairs (length (k .templates)))
+
+-- "one byte for i and one for j"
+abbrev pub pairBytes : Pair → List ℕ
+pairBytes p = p .first ∷ p .second ∷ []
+
+-- the order "by i then j"
+pub data Precedes (p q : Pair) : Type 0 where
+  by-first : p .first < q .first → Precedes p q
+  by-second : p .first ≡ q .first → p .second < q .second → Precedes p q

@@ -1,0 +1,1 @@
+// A book of templates: definitions (specs/) and theorems (proofs/) alone, no code.
