@@ -16,6 +16,7 @@ pub mod Known
 pub mod Pieces
 pub mod Places
 pub mod Seams
+pub mod Writing
 pub mod Words
 pub mod Values
 pub mod Solvable

@@ -12,7 +12,7 @@ use Rattle.model.proofs.Seams.{nothing}
 use Rattle.shape.specs.Bytes.{sideOf}
 use Rattle.shape.proofs.Sides.{says-used, says-letter, says-field}
 use Rattle.dimacs.specs.Codes.{codesLine}
-use Rattle.dimacs.proofs.Laws.{Writing, joined, begin, fits, next, ends}
+use Rattle.model.proofs.Writing.{Writing, joined, begin, fits, next, ends}
 use Rattle.crossings.specs.Codes.{letterLines}
 use Rattle.crossings.proofs.put_letter.Statement.{statement}
 use Rattle.crossings.proofs.put_letter.Tie as tie

@@ -10,7 +10,7 @@ use Rattle.formula.specs.Kind.{Side, used, atLetter, atField, SideIn}
 use Rattle.shape.specs.Bytes.{sideOf}
 use Rattle.shape.proofs.Sides.{says-used, says-letter, says-field}
 use Rattle.dimacs.specs.Codes.{codesLine}
-use Rattle.dimacs.proofs.Laws.{Writing, joined, begin, fits, next, ends}
+use Rattle.model.proofs.Writing.{Writing, joined, begin, fits, next, ends}
 use Rattle.crossings.specs.Codes.{openLines}
 use Rattle.matching.specs.Codes.{unlikeLine, matchLine}
 use Rattle.crossings.proofs.put_open.Statement.{statement}

@@ -8,7 +8,8 @@ use borrow.Author.Needs.{needs}
 use borrow.Fn.Kinds.{In}
 use borrow.Fn.PlainCycle.{Measures, is, falls, and}
 use Rattle.formula.specs.Dimacs.{decimal}
-use Rattle.dimacs.proofs.Laws.{Writing, fits, next, stored, more-figures}
+use Rattle.dimacs.proofs.Laws.{more-figures}
+use Rattle.model.proofs.Writing.{Writing, fits, next, stored}
 use Rattle.dimacs.proofs.few_figures.Reads as few-figures-reads
 use Rattle.dimacs.proofs.print.Reads as print
 use Rattle.dimacs.proofs.print.Kinds as print-kinds

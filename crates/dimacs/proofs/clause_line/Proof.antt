@@ -6,7 +6,7 @@ use native.Mathlib.Omega.{arith}
 use borrow.Author.Needs.{needs}
 use Rattle.model.specs.Lists.{each}
 use Rattle.dimacs.specs.Codes.{codeBytes, codesLine}
-use Rattle.dimacs.proofs.Laws.{Writing, joined, begin, fits, next, ends}
+use Rattle.model.proofs.Writing.{Writing, joined, begin, fits, next, ends}
 use Rattle.dimacs.proofs.clause_line.Statement.{statement}
 use Rattle.dimacs.proofs.clause_line.Tie as tie
 

@@ -1,7 +1,8 @@
 -- `dimacs::few_figures` meets its contract, by the number of figures. Assumes nothing.
 use native.Mathlib.Omega.{arith}
 use borrow.Author.Needs.{needs}
-use Rattle.dimacs.proofs.Laws.{fits, next, ends, one-figure, two-figures, three-figures, four-figures}
+use Rattle.dimacs.proofs.Laws.{one-figure, two-figures, three-figures, four-figures}
+use Rattle.model.proofs.Writing.{fits, next, ends}
 use Rattle.dimacs.proofs.few_figures.Statement.{statement}
 use Rattle.dimacs.proofs.few_figures.Tie as tie
 

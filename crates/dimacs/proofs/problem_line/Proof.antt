@@ -5,7 +5,7 @@ use Prim.Native.Nat.{ℕ}
 use native.Mathlib.Omega.{arith}
 use borrow.Author.Needs.{needs}
 use Rattle.formula.specs.Dimacs.{decimal, problemLine}
-use Rattle.dimacs.proofs.Laws.{Writing, joined, begin, fits, next, ends}
+use Rattle.model.proofs.Writing.{Writing, joined, begin, fits, next, ends}
 use Rattle.dimacs.proofs.problem_line.Statement.{statement}
 use Rattle.dimacs.proofs.problem_line.Tie as tie
 

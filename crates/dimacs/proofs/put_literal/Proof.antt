@@ -4,7 +4,8 @@ use Prim.Native.Nat.{ℕ, _/_}
 use borrow.Author.Needs.{needs}
 use Rattle.formula.specs.Dimacs.{decimal}
 use Rattle.dimacs.specs.Codes.{codeBytes}
-use Rattle.dimacs.proofs.Laws.{Writing, fits, next, ends, no-literal, even-literal, odd-literal}
+use Rattle.dimacs.proofs.Laws.{no-literal, even-literal, odd-literal}
+use Rattle.model.proofs.Writing.{Writing, fits, next, ends}
 use Rattle.dimacs.proofs.put_literal.Statement.{statement}
 use Rattle.dimacs.proofs.put_literal.Tie as tie
 

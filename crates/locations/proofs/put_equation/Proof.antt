@@ -11,7 +11,7 @@ use Rattle.formula.specs.Clause.{S, Start, leftCells, rightCells}
 use Rattle.formula.specs.Numbering.{number}
 use Rattle.model.proofs.Seams.{Written}
 use Rattle.model.proofs.Pieces.{loop-none, loop-room, loop-next, loop-done}
-use Rattle.dimacs.proofs.Laws.{Writing, joined, begin, fits, next, ends}
+use Rattle.model.proofs.Writing.{Writing, joined, begin, fits, next, ends}
 use Rattle.literals.specs.Name.{lineOf}
 use Rattle.locations.specs.Lines.{rowLines, equationLines}
 use Rattle.dimacs.specs.Codes.{mostCode}

@@ -10,7 +10,7 @@ use Rattle.formula.specs.Count.{Section, ofFields, ofEquations, ofConstraints}
 use Rattle.formula.specs.Dimacs.{problemLine, file}
 use Rattle.formula.proofs.Lines.{first-line}
 use Rattle.model.proofs.Templates.{well-formed}
-use Rattle.dimacs.proofs.Laws.{Writing, joined, begin, fits, next, ends}
+use Rattle.model.proofs.Writing.{Writing, joined, begin, fits, next, ends}
 use Rattle.rendering.specs.Lines.{sectionLines}
 use Rattle.rendering.proofs.Whole.{file-is}
 use Rattle.rendering.proofs.put_file.Statement.{statement}

@@ -11,7 +11,7 @@ use Rattle.model.specs.Sheet.{Sheet, sheetOf, limit}
 use Rattle.formula.specs.Clause.{SomeValue, BlankTail, Start}
 use Rattle.model.proofs.Seams.{nothing}
 use Rattle.formula.proofs.Small.{letters-few, limit-small}
-use Rattle.dimacs.proofs.Laws.{Writing, joined, begin, fits, next, ends}
+use Rattle.model.proofs.Writing.{Writing, joined, begin, fits, next, ends}
 use Rattle.literals.specs.Name.{lineOf}
 use Rattle.rendering.specs.Lines.{placeLines}
 use Rattle.rendering.specs.Codes.{pairLines}

@@ -8,7 +8,7 @@ use borrow.Author.Needs.{needs}
 use Rattle.model.specs.Sheet.{sheetOf, letterOf}
 use Rattle.model.specs.Word.{letterBytes}
 use Rattle.calls.specs.Report as model
-use Rattle.dimacs.proofs.Laws.{Writing, joined, begin, fits, next, ends}
+use Rattle.model.proofs.Writing.{Writing, joined, begin, fits, next, ends}
 use Rattle.report.proofs.Sizes.{line-size}
 use Rattle.report.proofs.line.Statement.{statement}
 use Rattle.report.proofs.line.Tie as tie

@@ -11,7 +11,7 @@ use Rattle.model.specs.Filling.{substitutionIn}
 use Rattle.calls.specs.Report.{clashLine, fieldLine, pairLine, report}
 use Rattle.parts.proofs.Known.{lent-bytes}
 use Rattle.fields.specs.Memory.{meaning}
-use Rattle.dimacs.proofs.Laws.{Writing, joined, begin, fits, next, ends}
+use Rattle.model.proofs.Writing.{Writing, joined, begin, fits, next, ends}
 use Rattle.report.proofs.Sizes.{report-size, clash-ready}
 use Rattle.report.proofs.write.Statement.{statement}
 use Rattle.report.proofs.write.Tie as tie

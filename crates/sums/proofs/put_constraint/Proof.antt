@@ -6,7 +6,7 @@ use borrow.Author.Needs.{needs}
 use Rattle.model.specs.Lists.{each, upTo}
 use Rattle.model.specs.Sheet.{Sheet, sheetOf}
 use Rattle.formula.specs.Clause.{Start, Zero, fields}
-use Rattle.dimacs.proofs.Laws.{Writing, joined, begin, fits, next, ends}
+use Rattle.model.proofs.Writing.{Writing, joined, begin, fits, next, ends}
 use Rattle.literals.specs.Name.{lineOf}
 use Rattle.sums.specs.Lines.{stepLines, boundLines, constraintLines}
 use Rattle.sums.proofs.put_constraint.Statement.{statement}
