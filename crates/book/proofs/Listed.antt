@@ -11,7 +11,7 @@ use Rattle.model.proofs.Lists.{by-test, weaken, at, from-at, append-in, map-in,
 use Rattle.model.proofs.Keeping.{keep-in, keep-out, from-in, below-in, loop-in, loop-out, keep-each, keep-map, keep-short, each-map, each-when, length-map-from, length-loop, total-grows, each-most}
 use Rattle.model.proofs.Pieces.{each-each}
 use Rattle.book.specs.Book.{Book}
-use Rattle.book.specs.Pairs.{Pair, pairs, clash, clashing, pairBytes, Precedes, by-first, by-second}
+use Rattle.book.specs.Pairs.{Pair, pairs, clash, clashing, pairBytes, listBytes, Precedes, by-first, by-second}
 
 abbrev pair : ℕ → ℕ → Pair
 pair i j = record { first = i; second = j }
@@ -95,6 +95,11 @@ unfolding clashing
 listed-in-order k = sorted-at (clashing k) (sorted-keep (λ p. clash k (p .first) (p .second)) (pairs (length (k .templates))) (pairs-sorted (length (k .templates))))
 
 -- The list as it is written, row by row; and its size.
+two-each : (ps : List Pair) → length (each ps pairBytes) ≡ 2 * length ps
+unfolding each
+two-each [] = refl
+two-each (p ∷ ps) = let n = two-each ps in omega arith
+
 below-sixteen : total 16 (λ i. 16 - suc i) ≡ 120
 unfolding total
 below-sixteen = refl
@@ -109,13 +114,18 @@ module _ (k : Book) where
   row-written i [] = refl
   row-written i (j ∷ js) = by-test (clash k i j) (λ e. rw e (ap (λ z. i ∷ j ∷ z) (row-written i js))) (λ e. rw e (row-written i js))
 
-  pub list-rows : each (clashing k) pairBytes ≡ each (upTo (length (k .templates))) rowBytes
-  unfolding clashing pairs rowBytes
+  pub list-rows : listBytes k ≡ each (upTo (length (k .templates))) rowBytes
+  unfolding listBytes clashing pairs rowBytes
   list-rows =
       let n : ℕ = length (k .templates) in
       ap (λ ps. each ps pairBytes) (keep-each (λ p. clash k (p .first) (p .second)) (upTo n) (rowOf n))
       ∙ each-each (upTo n) _ pairBytes
       ∙ each-same _ _ (upTo n) (below-in _ n (λ i l. row-written i (from (suc i) (n - suc i))))
+
+  -- two bytes for each pair
+  pub list-size : length (listBytes k) ≡ 2 * length (clashing k)
+  unfolding listBytes
+  list-size = two-each (clashing k)
 
   pub clashing-few : length (k .templates) ≤ 16 → length (clashing k) ≤ 120
   unfolding clashing pairs

@@ -47,6 +47,9 @@ clashing k = keep (λ p. clash k (p .first) (p .second)) (pairs (length (k .temp
 abbrev pub pairBytes : Pair → List ℕ
 pairBytes p = p .first ∷ p .second ∷ []
 
+unfoldable pub listBytes : Book → List ℕ
+listBytes k = each (clashing k) pairBytes
+
 -- the order "by i then j"
 pub data Precedes (p q : Pair) : Type 0 where
   by-first : p .first < q .first → Precedes p q

@@ -26,7 +26,7 @@ ended-order : (rules : List Rule) (w : Step Sheet) → ended (inOrder fault rule
 ended-order = order-through ended fault sheet.refused (λ n. refl)
 
 module _ (b : List ℕ) where
-  row-follows : (role : Role) (before k n : ℕ) → row role before n (drop k b) ≡ inOrder fault (rowRules b role before k n) (got (take n (drop k b)) (drop (k + n) b))
+  pub row-follows : (role : Role) (before k n : ℕ) → row role before n (drop k b) ≡ inOrder fault (rowRules b role before k n) (got (take n (drop k b)) (drop (k + n) b))
   unfolding row rowRules inOrder
   row-follows role before k zero = let e : k ≡ k + 0 = omega arith in ap (λ j. got [] (drop j b)) e
   row-follows role before k (suc n) = by-test (ltb k (length b))
@@ -41,7 +41,7 @@ module _ (b : List ℕ) where
       (λ t. rw (drop-of-length-le b (ltb-false k (length b) t), t))
 
   -- a row, and what goes on with its bytes
-  row-then : {A : Type 0} (role : Role) (k n : ℕ) (go : List ℕ → List ℕ → Step A) {rules : List Rule} {left : List ℕ}
+  pub row-then : {A : Type 0} (role : Role) (k n : ℕ) (go : List ℕ → List ℕ → Step A) {rules : List Rule} {left : List ℕ}
       → Follows (go (take n (drop k b)) (drop (k + n) b)) rules left → Follows (row role 0 n (drop k b) then go) (rowRules b role 0 k n ++ rules) left
   row-then role k n go h = follows-from (row role 0 n (drop k b)) (rowRules b role 0 k n) (take n (drop k b)) (drop (k + n) b) go (row-follows role 0 k n) h
 
@@ -74,7 +74,7 @@ module _ (b : List ℕ) where
       row-then coefficientByte k v _ (follows-wrapped _ (record { value = take 2 (drop (k + v) b); is = rw e at (row-follows mostByte 0 (k + v) 2) }))
 
   -- several of a kind
-  several-follow : {A : Type 0} (one : List ℕ → Step A) (rules : ℕ → List Rule) (taken : ℕ → ℕ) → ((k : ℕ) → Follows (one (drop k b)) (rules k) (drop (k + taken k) b))
+  pub several-follow : {A : Type 0} (one : List ℕ → Step A) (rules : ℕ → List Rule) (taken : ℕ → ℕ) → ((k : ℕ) → Follows (one (drop k b)) (rules k) (drop (k + taken k) b))
       → (n k : ℕ) → Follows (times n one (drop k b)) (severalRules n rules taken k) (drop (past n taken k) b)
   unfolding times severalRules past
   several-follow one rules taken h zero k = follows-got [] (drop k b)

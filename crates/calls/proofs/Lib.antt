@@ -13,8 +13,10 @@ pub mod Replying
 pub mod Untrusted
 pub mod Ordered
 pub mod FirstRefusals
+pub mod BookRefusals
 pub mod Demands
 pub mod FirstClash
 pub mod TickedOff
+pub mod BookOfTemplates
 pub mod Listings
 pub mod Printing

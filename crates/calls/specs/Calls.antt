@@ -12,6 +12,9 @@ use Rattle.model.specs.Word.{Substitution, letterBytes, spell, solves}
 use Rattle.model.specs.Solvable.{solvable}
 use Rattle.model.specs.Order.{firstSolution}
 use Rattle.model.specs.Filling.{filling, encodeFilling}
+use Rattle.book.specs.Book as book
+use Rattle.book.specs.Book.{Book, readBook}
+use Rattle.book.specs.Pairs.{clashing, listBytes}
 use Rattle.formula.specs.Clause.{ids}
 use Rattle.formula.specs.Numbering.{variables}
 use Rattle.formula.specs.Dimacs.{line, allowance}
@@ -167,3 +170,18 @@ unnumbered (finished values) = finished []
 
 abbrev pub HandsOver : Answer → List ℕ → Answer → List ℕ → Type 0
 HandsOver a before answer after = (answer ≡ unnumbered a) × (after ≡ written a before)
+
+-- A book's list (document 02, No. 3), "40 .. 41 .. 42 when the list's buffer is shorter than the list; they are tested in this order". The values are the
+-- number of clashing pairs, and then the list's bytes; the call answers the first and hands over the others, as `Decides` says.
+abbrev pub ofBook : book.Reading → (Book → Answer) → Answer
+ofBook (book.accepted k) go = go k
+ofBook (book.refused n) go = refused n
+
+abbrev pub listValues : Book → List ℕ
+listValues k = length (clashing k) ∷ listBytes k
+
+unfoldable pub comparingOf : Book → ℕ → Answer
+comparingOf k room = require (leb (length (listBytes k)) room) 42 (finished (listValues k))
+
+unfoldable pub comparing : List ℕ → ℕ → Answer
+comparing b room = ofBook (readBook b) (λ k. comparingOf k room)

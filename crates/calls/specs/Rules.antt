@@ -11,6 +11,9 @@ use Rattle.model.specs.Lists.{All, all, between, startsWith}
 use Rattle.model.specs.Sheet.{Sheet, Symbol, symbolOf, width, sixteen, Role, letterByte, limitByte, countByte, templateByte, coefficientByte, mostByte, passes, refusalOf, Counts, mark, byte, countsAt, sheetOf}
 use Rattle.model.specs.Word.{solves}
 use Rattle.model.specs.Filling.{filling, substitutionIn}
+use Rattle.book.specs.Book as book
+use Rattle.book.specs.Book.{Book, bookOf}
+use Rattle.book.specs.Pairs.{listBytes}
 use Rattle.formula.specs.Clause.{ids}
 use Rattle.formula.specs.Numbering.{variables}
 use Rattle.formula.specs.Dimacs.{line}
@@ -159,3 +162,53 @@ replyingRules t room s =
     ∷ (38 asks noneAfterBlank s (assigned t))
     ∷ (39 asks solves s (spelled s (assigned t)))
     ∷ []
+
+-- A book's rules (document 02, No. 3), of its bytes b. One byte from the one number to the other at offset k.
+abbrev pub countRules : List ℕ → ℕ → ℕ → ℕ → List Rule
+countRules b low high k = (41 asks ltb k (length b)) ∷ (41 asks between low high (byte b k)) ∷ []
+
+-- "a symbol count and symbols" and their width, of a template with these limits, from offset k on
+unfoldable pub symbolsRules : List ℕ → ℕ → List ℕ → ℕ → List Rule
+symbolsRules b l limits k =
+    countRules b 0 12 k
+    ++ (rowRules b (templateByte l (length limits)) 0 (k + 1) (byte b k)
+    ++ ((41 asks leb (width limits (symbolsAt b (k + 1) (byte b k))) 24) ∷ []))
+
+-- "Each template has a field count of 0 to 3, limits, a symbol count and symbols."
+abbrev pub templateRules : List ℕ → ℕ → ℕ → List Rule
+templateRules b l k =
+    countRules b 0 3 k
+    ++ (rowRules b limitByte 0 (k + 1) (byte b k) ++ symbolsRules b l (take (byte b k) (drop (k + 1) b)) (k + 1 + byte b k))
+
+abbrev pub templateBytes : List ℕ → ℕ → ℕ
+templateBytes b k = 1 + byte b k + 1 + byte b (k + 1 + byte b k)
+
+-- "L and its letters, a template count of 1 to 16, then the templates"; and where they end
+abbrev pub templatesAt : List ℕ → ℕ
+templatesAt b = 6 + byte b 5
+
+abbrev pub bookEnd : List ℕ → ℕ
+bookEnd b = past (byte b (templatesAt b)) (templateBytes b) (templatesAt b + 1)
+
+unfoldable pub bodyRules : List ℕ → List Rule
+bodyRules b =
+    countRules b 1 8 5
+    ++ (rowRules b letterByte 0 6 (byte b 5)
+    ++ (countRules b 1 16 (templatesAt b)
+    ++ severalRules (byte b (templatesAt b)) (templateRules b (byte b 5)) (templateBytes b) (templatesAt b + 1)))
+
+-- "40 when the book is under five bytes or mark or version is wrong. 41 when a count, letter, limit, symbol or width breaks a range given here or a
+-- sheet's rule for it, or bytes are missing or left over.": whatever number a sheet's rule has, a book's is 41
+abbrev pub asBook : Rule → Rule
+asBook r = 41 asks r .kept
+
+unfoldable pub bookRules : List ℕ → List Rule
+bookRules b =
+    (40 asks leb 5 (length b))
+    ∷ (40 asks startsWith book.mark b)
+    ∷ (40 asks eqb (sixteen (byte b 3) (byte b 4)) 1)
+    ∷ (map asBook (bodyRules b) ++ ((41 asks leb (length b) (bookEnd b)) ∷ []))
+
+-- "42 when the list's buffer is shorter than the list; they are tested in this order"
+unfoldable pub comparingRules : List ℕ → ℕ → List Rule
+comparingRules b room = bookRules b ++ ((42 asks leb (length (listBytes (bookOf b))) room) ∷ [])

@@ -1,0 +1,1 @@
+-- Document 02, No. 3.
