@@ -3,4 +3,5 @@ pub mod Reading
 pub mod Rests
 pub mod Places
 pub mod Question
+pub mod Meaning
 pub mod Listed

@@ -6,6 +6,7 @@ use mathlib.Core.Path.{_≡_}
 use lib.ListN.{length}
 use Rattle.model.specs.Lists.{each, from, upTo, keep}
 use Rattle.model.specs.Sheet.{Symbol, letter, field, Equation, Sheet}
+use Rattle.model.specs.Word.{Substitution, Texts, spell, SameWord}
 use Rattle.model.specs.Solvable.{solvable}
 use Rattle.book.specs.Book.{Template, Book, template}
 
@@ -30,6 +31,15 @@ question k i j = asked (k .letters) (template k i) (template k j)
 -- Two templates clash when their question has a filling that clashes.
 abbrev pub clash : Book → ℕ → ℕ → Bool
 clash k i j = solvable (question k i j)
+
+-- The same without sheet and numbers: texts for the fields of the one template, and texts for the fields of the other, with which both spell the same.
+-- "Fields belong to their own template." `Meaning.antt` shows that it is the same.
+pub record Clash (k : Book) (i j : ℕ) : Type 0 where
+  pub left-texts : Substitution
+  pub right-texts : Substitution
+  pub left-legal : Texts (length (k .letters)) (template k i .limits) left-texts
+  pub right-legal : Texts (length (k .letters)) (template k j .limits) right-texts
+  pub same-text : SameWord (question k i j) (spell left-texts (template k i .symbols)) (spell right-texts (template k j .symbols))
 
 -- "For i below j": a pair of templates, and all of them, "by i then j", of n templates.
 pub record Pair : Type 0 where
