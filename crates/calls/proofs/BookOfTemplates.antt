@@ -1,1 +1,128 @@
--- Document 02, No. 3.
+-- Document 02, No. 3 (docs/02-change-requests.md), "A book of templates", each sentence above the theorems that state it. What is said of a call is, as the
+-- demands are (Demands.antt), of bytes and of what its contract says: the call with the book b answered `answer`, and left `after` in the list's buffer where
+-- `before` stood. Assumes nothing.
+use mathlib.Core.Path.{_≡_, refl, sym, ap, subst, _∙_}
+use mathlib.Core.Logic.{_↔_}
+use mathlib.Core.Bool.{true}
+use mathlib.Core.List.{List, [], _∷_, _++_, map}
+use Prim.Native.Nat.{ℕ, _+_, _*_, _<_, _≤_}
+use native.Mathlib.Omega.{arith}
+use lib.ListN.{length, getD, take, drop}
+use Rattle.model.specs.Lists.{each, All, Bytes}
+use Rattle.model.specs.Sheet.{Sheet, letter, field, read, accepted, encode}
+use Rattle.model.specs.Range.{InRange}
+use Rattle.model.specs.Solvable.{solvable}
+use Rattle.book.specs.Book as book
+use Rattle.book.specs.Book.{Book, template, readBook, encodeBook, BookIn, bookOf}
+use Rattle.book.specs.Pairs.{numberedAfter, asked, question, clash, Clash, Pair, clashing, pairBytes, listBytes, Precedes}
+use Rattle.calls.specs.Calls.{Answer, finished, verdict, searching, decision, Decides, comparing}
+use Rattle.calls.specs.Rules.{comparingRules}
+use Rattle.model.proofs.Lists.{weaken, from-at}
+use Rattle.model.proofs.Known.{accepted-as}
+use Rattle.book.proofs.Reading as reading
+use Rattle.book.proofs.Question.{question-in-range, question-read}
+use Rattle.book.proofs.Meaning.{clash-means}
+use Rattle.book.proofs.Listed.{listed-clash, clash-listed, listed-in-order, list-size, clashing-few}
+use Rattle.calls.proofs.Searching as searches
+use Rattle.calls.proofs.Comparing.{compared}
+use Rattle.calls.proofs.Demands.{InOrder, Unchanged, in-order}
+use Rattle.calls.proofs.FirstRefusals.{decision-ordered}
+use Rattle.calls.proofs.BookRefusals.{comparing-ordered}
+
+-- "A book has the mark TPB, version 1 in 16 bits, L and its letters, a template count of 1 to 16, then the templates. Each template has a field count of 0 to 3,
+-- limits, a symbol count and symbols.": the bytes of a book within the ranges are read as that book, and no others are accepted. No accepted book has more
+-- than 287 bytes, and the first 288 decide.
+pub a-books-bytes-are-read : (k : Book) → BookIn k → readBook (encodeBook k) ≡ book.accepted k
+a-books-bytes-are-read = reading.read-encode
+
+pub no-others-are-accepted : (b : List ℕ) → Bytes b → (k : Book) → readBook b ≡ book.accepted k → (b ≡ encodeBook k) × BookIn k
+no-others-are-accepted b y k = reading.accepted-encode b y
+
+pub accepted-books-are-short : (b : List ℕ) (k : Book) → readBook b ≡ book.accepted k → length b ≤ 287
+accepted-books-are-short b k = reading.book-short b
+
+pub a-prefix-decides : (b : List ℕ) → readBook b ≡ readBook (take 288 b)
+a-prefix-decides = reading.read-prefix
+
+-- "For i below j the question is the sheet with template i on the left and j on the right, j's fields numbered after i's, without rules."
+pub record Asks (k : Book) (i j : ℕ) (s : Sheet) : Type 0 where
+  pub letters-are : s .letters ≡ k .letters
+  -- a field of i has its own number, a field f of j the number of i's fields and f
+  pub limits-are : s .limits ≡ template k i .limits ++ template k j .limits
+  pub one-pair : s .equations ≡ record { left = template k i .symbols; right = map (numberedAfter (length (template k i .limits))) (template k j .symbols) } ∷ []
+  pub no-rules : s .constraints ≡ []
+
+pub the-question-is : (k : Book) (i j : ℕ) → Asks k i j (question k i j)
+unfolding asked
+the-question-is k i j = record { letters-are = refl; limits-are = refl; one-pair = refl; no-rules = refl }
+
+pub numbered-after-is : (n a f : ℕ) → (numberedAfter n (letter a) ≡ letter a) × (numberedAfter n (field f) ≡ field (n + f))
+numbered-after-is n a f = (refl, refl)
+
+module _ (k : Book) (ok : BookIn k) (i j : ℕ) (hi : i < length (k .templates)) (hj : j < length (k .templates)) where
+  -- it is a sheet of document 01, and its bytes are accepted as that sheet
+  pub the-question-is-a-sheet : InRange (question k i j)
+  the-question-is-a-sheet = question-in-range k ok i j hi hj
+
+  pub its-bytes-are-accepted : read (encode (question k i j)) ≡ accepted (question k i j)
+  its-bytes-are-accepted = question-read k ok i j hi hj
+
+  -- "Fields belong to their own template.": two templates clash exactly when texts for the fields of the one and texts for the fields of the other spell the same
+  pub clashing-means : (clash k i j ≡ true) ↔ Clash k i j
+  clashing-means = clash-means k ok i j hi
+
+  -- and a search of the question's bytes says the same
+  pub searching-says-the-same : (room : ℕ) → 54 ≤ room → decision (searching (encode (question k i j)) room) ≡ verdict (clash k i j)
+  searching-says-the-same room h =
+      let a = accepted-as (encode (question k i j)) its-bytes-are-accepted in
+      let few = the-question-is-a-sheet .counts-in .of-fields in
+      searches.searching-verdict (encode (question k i j)) room (a .0) (subst (λ s. 9 * length (s .limits) ≤ room) (sym (a .1)) (omega arith)) ∙ ap (λ s. verdict (solvable s)) (a .1)
+
+-- a pair that stands in a list
+pub record Stands (p : Pair) (ps : List Pair) : Type 0 where
+  pub place : ℕ
+  pub inside : place < length ps
+  pub there : getD ps place (record { first = 0; second = 0 }) ≡ p
+
+-- "The answer lists each clashing (i, j) once, by i then j, one byte for i and one for j; templates and rules, like pairs, count from 0. It lists all of them and no
+-- others, gives their number, and leaves later bytes unchanged."
+pub record ListsTheClashes (k : Book) (before after : List ℕ) (number : ℕ) : Type 0 where
+  pub list : List Pair
+  pub bytes : after ≡ each list pairBytes ++ drop (2 * length list) before
+  pub their-number : number ≡ length list
+  pub all-of-them : (i j : ℕ) → i < j → j < length (k .templates) → Clash k i j → Stands (record { first = i; second = j }) list
+  pub no-others : All (λ p. (p .first < p .second) × (p .second < length (k .templates)) × Clash k (p .first) (p .second)) list
+  -- each precedes those after it, so that none stands there twice
+  pub in-order : (d : Pair) (m n : ℕ) → m < n → n < length list → Precedes (getD list m d) (getD list n d)
+
+all-stand : (ps : List Pair) → All (λ p. Stands p ps) ps
+all-stand ps = from-at (λ p. Stands p ps) (record { first = 0; second = 0 }) ps (λ i l. record { place = i; inside = l; there = refl })
+
+module _ (b before after : List ℕ) (answer : Answer) (call : Decides (comparing b (length before)) before answer after) where
+  -- "40 when .. 41 when .. 42 when the list's buffer is shorter than the list; they are tested in this order." A refusal changes no lent byte.
+  pub comparing-gives-the-first-refusal : InOrder (comparingRules b (length before)) answer × Unchanged answer before after
+  comparing-gives-the-first-refusal =
+      (rw (call .0) (in-order (decision-ordered (comparing-ordered b (length before)))), searches.refused-unchanged (comparing b (length before)) call)
+
+  pub lists-the-clashes : Bytes b → (number : ℕ) → answer ≡ finished (number ∷ []) → ListsTheClashes (bookOf b) before after number
+  unfolding listBytes
+  lists-the-clashes y number e =
+      let c = compared b before after (number ∷ []) (sym e ∙ call .0, call .1) in
+      let k : Book = bookOf b in
+      let ok = reading.accepted-encode b y (c .admitted) .1 in
+      let size = list-size k in
+      record {
+        list = clashing k;
+        bytes = c .bytes ∙ ap (λ n. listBytes k ++ drop n before) size;
+        their-number = first-same (c .number);
+        all-of-them = λ i j l m h. clash-listed k (λ p. Stands p (clashing k)) (all-stand (clashing k)) i j l m (clash-means k ok i j (omega arith) .1 h);
+        no-others = weaken _ _ (clashing k) (λ p h. (h .0, h .1, clash-means k ok (p .first) (p .second) (omega (arith, h .0, h .1)) .0 (h .2))) (listed-clash k);
+        in-order = listed-in-order k;
+      }
+    where
+      first-same : {m n : ℕ} → _≡_ {A = List ℕ} (m ∷ []) (n ∷ []) → m ≡ n
+      first-same e = cc
+
+-- the list has at most 120 pairs, so 240 bytes
+pub lists-are-short : (k : Book) → BookIn k → length (listBytes k) ≤ 240
+lists-are-short k ok = omega (arith, list-size k, clashing-few k (ok .of-templates .1))

@@ -50,7 +50,7 @@ pub record InOrder (rules : List Rule) (answer : Answer) : Type 0 where
 abbrev pub Unchanged : Answer → List ℕ → List ℕ → Type 0
 Unchanged answer before after = (n : ℕ) → answer ≡ refused n → after ≡ before
 
-in-order : {rules : List Rule} {answer : Answer} → Ordered rules answer → InOrder rules answer
+pub in-order : {rules : List Rule} {answer : Answer} → Ordered rules answer → InOrder rules answer
 in-order {rules} {answer} o = record {
   first = λ n. (
     (λ f. o .is ∙ first-fails refused rules _ f),

@@ -8,6 +8,7 @@ pub mod Sizes
 pub mod Blanks
 pub mod Splitting
 pub mod Searching
+pub mod Comparing
 pub mod Decoded
 pub mod Replying
 pub mod Untrusted

@@ -129,7 +129,7 @@ filling-numbers s m n e = by-step (filling s m) (of-filling s m) e
     by-step (fault k) h e = let z : k ≡ n = cc in omega arith
 
 -- An answer that is finished, or whose refusal's number is not 0: after a test, and after reading a sheet.
-abbrev NotZero : Answer → Type 0
+abbrev pub NotZero : Answer → Type 0
 NotZero (refused n) = 1 ≤ n
 NotZero (finished values) = Unit
 

@@ -23,6 +23,11 @@ pub accepted-sheet : (b : List ℕ) → Accepted b → read b ≡ accepted (shee
 unfolding Accepted sheetOf
 accepted-sheet b h = of-accepted b (read b) refl h
 
+-- bytes that are read as a sheet are accepted, and it is theirs
+pub accepted-as : (b : List ℕ) {s : sheet.Sheet} → read b ≡ accepted s → Accepted b × (sheetOf b ≡ s)
+unfolding Accepted sheetOf
+accepted-as b e = (ap isAccepted e, ap sheet.sheetIn e)
+
 -- the counts alone are in their ranges, whatever numbers stand in the list
 pub accepted-counts : (b : List ℕ) → Accepted b → CountsIn (countsOf (sheetOf b))
 unfolding read
