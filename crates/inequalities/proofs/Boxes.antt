@@ -8,8 +8,7 @@ use native.Mathlib.Nat.{mul-le-mul-left}
 use native.Mathlib.Omega.{arith}
 use lib.ListN.{getD, drop}
 use borrow.Author.Tests.{ltb-false, le-leb}
-use Rattle.model.proofs.Keeping.{total-same}
-use Rattle.formula.proofs.Small.{total-grows}
+use Rattle.model.proofs.Keeping.{total-same, total-grows}
 use Rattle.inequalities.specs.Rows.{sideSum, rowHolds, hopelessRow}
 
 -- a side at greater lengths, and at the same lengths

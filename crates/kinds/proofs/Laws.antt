@@ -15,8 +15,7 @@ use Rattle.shape.specs.Bytes.{sideOf}
 use Rattle.kinds.specs.Census.{asLetter, asPlace, asThis, ownOf, timesOf, Few, Added, AllCells, Counted, rowOf}
 use Rattle.kinds.specs.declared.Census.{Census}
 use Rattle.model.proofs.Lists.{by-test}
-use Rattle.model.proofs.Keeping.{total-more, total-none}
-use Rattle.formula.proofs.Small.{total-grows}
+use Rattle.model.proofs.Keeping.{total-more, total-none, total-grows}
 use Rattle.shape.proofs.Sides.{says-letter, says-field}
 
 -- A row with a letter on the left is small.

@@ -1,6 +1,6 @@
 -- `automaton::hand_over` meets its contract: what is found solves the sheet, so that it passes the check, and it is the first solution; where nothing
 -- is found nothing solves it. Assumes nothing.
-use mathlib.Core.Path.{sym, ap, _∙_}
+use mathlib.Core.Path.{refl, sym, ap, _∙_}
 use mathlib.Core.List.{_++_}
 use Prim.Native.Nat.{_*_}
 use native.Mathlib.Omega.{arith}
@@ -36,7 +36,7 @@ found-held : (c : tie.Else1) → Held (start c .args .sheet .now) (c .before .be
 found-held c = c .before .before .solve .ensures .held (not-false _ (c .if1 .left))
 
 found-first : (c : tie.Else1) → IsFirst (sheetOf (start c .args .sheet .now)) (meaning (start c .args .sheet .now) (c .before .before .solve .result .substitution))
-found-first c = c .before .before .solve .ensures .first (not-false _ (c .if1 .left))
+found-first c = c .before .before .solve .ensures .is-first refl (not-false _ (c .if1 .left))
 
 solves-requires : tie.Need-solves-requires
 solves-requires c κs = found-held (c .before)

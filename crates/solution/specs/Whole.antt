@@ -5,6 +5,7 @@ use mathlib.Core.List.{List, [], _∷_}
 use Prim.Native.Nat.{ℕ, _<_}
 use lib.ListN.{getD}
 use Rattle.model.specs.Sheet.{Sheet, limit, sheetOf}
+use Rattle.model.specs.Word.{Solves}
 use Rattle.model.specs.Order.{IsFirst}
 use Rattle.fields.specs.Memory.{meaning, Held}
 use Rattle.unification.specs.declared.Found.{Found}
@@ -22,8 +23,9 @@ pub record Whole (s : Sheet) (a : Ask) : Type 0 where
   pub all-equations : a .equations ≡ allMarked
   pub all-constraints : a .constraints ≡ allMarked
 
--- what is found holds the first solution; where nothing is found there is none
-pub record Settles (b : List ℕ) (r : Found) : Type 0 where
+-- what is found holds a solution, the first where that is asked; where nothing is found there is none
+pub record Settles (b : List ℕ) (first : Bool) (r : Found) : Type 0 where
   pub held : r .ok ≡ true → Held b (r .substitution)
-  pub first : r .ok ≡ true → IsFirst (sheetOf b) (meaning b (r .substitution))
+  pub solution : r .ok ≡ true → Solves (sheetOf b) (meaning b (r .substitution))
+  pub is-first : first ≡ true → r .ok ≡ true → IsFirst (sheetOf b) (meaning b (r .substitution))
   pub none : r .ok ≡ false → Unsolvable (sheetOf b)

@@ -1,11 +1,11 @@
--- `automaton::solve` meets its contract: where letters tell that nothing solves the sheet there is no solution, and else the answers to the whole question
+-- `solution::solve` meets its contract: where letters tell that nothing solves the sheet there is no solution, and else the answers to the whole question
 -- are the solutions, of which it gives the first. Assumes nothing.
-use mathlib.Core.Path.{refl, sym, _∙_}
+use mathlib.Core.Path.{sym, _∙_}
 use borrow.Author.Needs.{needs}
 use Rattle.model.proofs.Lists.{never}
-use Rattle.automaton.proofs.Asked.{whole-asks, solves-answers, answers-solve}
-use Rattle.automaton.proofs.solve.Statement.{statement}
-use Rattle.automaton.proofs.solve.Tie as tie
+use Rattle.solution.proofs.Asked.{whole-asks, solves-answers, answers-solve}
+use Rattle.solution.proofs.solve.Statement.{statement}
+use Rattle.solution.proofs.solve.Tie as tie
 
 some-lopsided-requires : tie.Need-some-lopsided-requires
 some-lopsided-requires c κs = search needs
@@ -18,7 +18,8 @@ returns c =
     let e = c .none .ensures in
     record {
       held = λ t. never (sym e ∙ t);
-      first = λ t. never (sym e ∙ t);
+      solution = λ t. never (sym e ∙ t);
+      is-first = λ _ t. never (sym e ∙ t);
       none = λ _. c .before .before .some-lopsided .ensures (c .before .if1 .taken);
     }
 
@@ -37,9 +38,10 @@ returns-2 c =
     let b = start .args .sheet .now in
     record {
       held = c .find .ensures .held;
-      first = λ e. record {
+      solution = λ e. answers-solve b (start .pre) (at .whole .result) (at .whole .ensures) _ (c .find .ensures .answer e);
+      is-first = λ asked e. record {
         is-solution = answers-solve b (start .pre) (at .whole .result) (at .whole .ensures) _ (c .find .ensures .answer e);
-        none-before = λ g h. c .find .ensures .earliest refl e g (solves-answers b (start .pre) (at .whole .result) (at .whole .ensures) g h);
+        none-before = λ g h. c .find .ensures .earliest asked e g (solves-answers b (start .pre) (at .whole .result) (at .whole .ensures) g h);
       };
       none = λ e g h. c .find .ensures .none e g (solves-answers b (start .pre) (at .whole .result) (at .whole .ensures) g h);
     }

@@ -1,4 +1,4 @@
--- `automaton::limits` meets its contract: after f turns the first f limits are there, and 0 from there on. Assumes nothing.
+-- `solution::limits` meets its contract: after f turns the first f limits are there, and 0 from there on. Assumes nothing.
 use mathlib.Core.Path.{_≡_, refl, sym, _∙_}
 use mathlib.Core.List.{List}
 use Prim.Native.Nat.{ℕ, _+_, _-_, _<_, _≤_}
@@ -12,9 +12,9 @@ use borrow.Author.Tests.{ltb-true, ltb-false}
 use Rattle.model.specs.Sheet.{sheetOf, limit}
 use Rattle.model.proofs.Lists.{by-test}
 use Rattle.formula.proofs.Small.{fields-few}
-use Rattle.automaton.proofs.Asked.{zeros}
-use Rattle.automaton.proofs.limits.Statement.{statement}
-use Rattle.automaton.proofs.limits.Tie as tie
+use Rattle.solution.proofs.Asked.{zeros}
+use Rattle.solution.proofs.limits.Statement.{statement}
+use Rattle.solution.proofs.limits.Tie as tie
 
 -- the first f of six lengths are those of h
 record Copied (h : ℕ → ℕ) (n : List ℕ) (f : ℕ) : Type 0 where

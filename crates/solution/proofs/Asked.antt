@@ -14,7 +14,7 @@ use Rattle.inequalities.proofs.Asked.{asked-all}
 use Rattle.question.specs.declared.Ask.{Ask}
 use Rattle.question.specs.Ask.{Asking, Answers}
 use Rattle.question.proofs.Instances.{text-size}
-use Rattle.automaton.specs.Whole.{Whole}
+use Rattle.solution.specs.Whole.{Whole}
 
 pub zeros : (n k : ℕ) → getD {A = ℕ} (replicate n 0) k 0 ≡ 0
 zeros zero k = refl

@@ -1,9 +1,9 @@
--- `automaton::whole` meets its contract. Assumes nothing.
+-- `solution::whole` meets its contract. Assumes nothing.
 use mathlib.Core.Path.{refl}
 use borrow.Author.Needs.{needs}
-use Rattle.automaton.proofs.Asked.{zeros}
-use Rattle.automaton.proofs.whole.Statement.{statement}
-use Rattle.automaton.proofs.whole.Tie as tie
+use Rattle.solution.proofs.Asked.{zeros}
+use Rattle.solution.proofs.whole.Statement.{statement}
+use Rattle.solution.proofs.whole.Tie as tie
 
 limits-requires : tie.Need-limits-requires
 limits-requires c κs = search needs
