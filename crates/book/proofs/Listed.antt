@@ -11,7 +11,7 @@ use Rattle.model.proofs.Lists.{by-test, weaken, at, from-at, append-in, map-in,
 use Rattle.model.proofs.Keeping.{keep-in, keep-out, from-in, below-in, loop-in, loop-out, keep-each, keep-map, keep-short, each-map, each-when, length-map-from, length-loop, total-grows, each-most}
 use Rattle.model.proofs.Pieces.{each-each}
 use Rattle.book.specs.Book.{Book}
-use Rattle.book.specs.Pairs.{Pair, pairs, clash, clashing, pairBytes, listBytes, Precedes, by-first, by-second}
+use Rattle.book.specs.Pairs.{Pair, pairs, clash, clashing, pairBytes, listBytes, rowBytes, Precedes, by-first, by-second}
 
 abbrev pair : ℕ → ℕ → Pair
 pair i j = record { first = i; second = j }
@@ -105,16 +105,12 @@ unfolding total
 below-sixteen = refl
 
 module _ (k : Book) where
-  -- the bytes of the pairs with i as the first
-  unfoldable pub rowBytes : ℕ → List ℕ
-  rowBytes i = each (from (suc i) (length (k .templates) - suc i)) (λ j. when (clash k i j) (i ∷ j ∷ []))
-
   row-written : (i : ℕ) (js : List ℕ) → each (keep (λ p. clash k (p .first) (p .second)) (map (λ j. pair i j) js)) pairBytes ≡ each js (λ j. when (clash k i j) (i ∷ j ∷ []))
   unfolding each keep
   row-written i [] = refl
   row-written i (j ∷ js) = by-test (clash k i j) (λ e. rw e (ap (λ z. i ∷ j ∷ z) (row-written i js))) (λ e. rw e (row-written i js))
 
-  pub list-rows : listBytes k ≡ each (upTo (length (k .templates))) rowBytes
+  pub list-rows : listBytes k ≡ each (upTo (length (k .templates))) (rowBytes k)
   unfolding listBytes clashing pairs rowBytes
   list-rows =
       let n : ℕ = length (k .templates) in

@@ -4,7 +4,7 @@ use mathlib.Core.List.{List, [], _∷_, _++_, map}
 use Prim.Native.Nat.{ℕ, suc, _+_, _-_, _<_}
 use mathlib.Core.Path.{_≡_}
 use lib.ListN.{length}
-use Rattle.model.specs.Lists.{each, from, upTo, keep}
+use Rattle.model.specs.Lists.{each, from, upTo, when, keep}
 use Rattle.model.specs.Sheet.{Symbol, letter, field, Equation, Sheet}
 use Rattle.model.specs.Word.{Substitution, Texts, spell, SameWord}
 use Rattle.model.specs.Solvable.{solvable}
@@ -59,6 +59,10 @@ pairBytes p = p .first ∷ p .second ∷ []
 
 unfoldable pub listBytes : Book → List ℕ
 listBytes k = each (clashing k) pairBytes
+
+-- the part of it that has i as the first
+unfoldable pub rowBytes : Book → ℕ → List ℕ
+rowBytes k i = each (from (suc i) (length (k .templates) - suc i)) (λ j. when (clash k i j) (i ∷ j ∷ []))
 
 -- the order "by i then j"
 pub data Precedes (p q : Pair) : Type 0 where

@@ -1,0 +1,57 @@
+-- The question of two templates, settled, says whether they clash; and the list as it is written, pair by pair and row by row. Assumes nothing.
+use mathlib.Core.Path.{_≡_, refl, sym, ap, subst, _∙_}
+use mathlib.Core.Bool.{Bool, true, false}
+use mathlib.Core.List.{List, [], _∷_, _++_}
+use Prim.Native.Nat.{ℕ, suc, _+_, _-_, _*_, _<_, _≤_}
+use native.Mathlib.Omega.{arith}
+use lib.ListN.{length, take, drop}
+use Rattle.model.specs.Lists.{each, from, upTo, when, Puts}
+use Rattle.model.specs.Sheet.{encode, read, sheetOf}
+use Rattle.model.specs.Range.{InRange}
+use Rattle.model.specs.Range as range
+use Rattle.model.specs.Solvable.{solvable}
+use Rattle.model.proofs.Lists.{by-test}
+use Rattle.model.proofs.Known.{accepted-as}
+use Rattle.model.proofs.Solvable.{solvable-in, none-unsolvable}
+use Rattle.model.proofs.Seams.{nothing}
+use Rattle.model.proofs.Pieces.{each-from}
+use Rattle.unification.specs.declared.Found.{Found}
+use Rattle.solution.specs.Whole.{Settles}
+use Rattle.book.specs.Book.{Book, BookIn}
+use Rattle.book.specs.Pairs.{question, clash, rowBytes}
+use Rattle.book.proofs.Question.{question-in-range, question-read}
+
+module _ (k : Book) (ok : BookIn k) (i j : ℕ) (hi : i < length (k .templates)) (hj : j < length (k .templates)) (b : List ℕ) (is : b ≡ encode (question k i j)) where
+  read-as : (sheetOf b ≡ question k i j)
+  read-as = accepted-as b (ap (λ z. read z) is ∙ question-read k ok i j hi hj) .1
+
+  -- the bytes may be asked
+  pub question-admitted : range.Admitted b
+  question-admitted = (accepted-as b (ap (λ z. read z) is ∙ question-read k ok i j hi hj) .0, subst InRange (sym read-as) (question-in-range k ok i j hi hj))
+
+  -- and what settles them says whether the templates clash
+  pub settles-clash : (r : Found) → Settles b false r → r .ok ≡ clash k i j
+  settles-clash r s = by-test (r .ok)
+      (λ e. e ∙ sym (ap solvable (sym read-as) ∙ solvable-in (sheetOf b) _ (s .solution e)))
+      (λ e. e ∙ sym (ap solvable (sym read-as) ∙ none-unsolvable (sheetOf b) (s .none e)))
+
+-- what is written of two templates
+pub pair-none : (s : List ℕ) (at i j : ℕ) (t : Bool) → t ≡ false → Puts s at (when t (i ∷ j ∷ [])) s at
+pair-none s at i j t e = let w = nothing s at in subst (λ b. Puts s at (when b (i ∷ j ∷ [])) s at) (sym e) (w .past, w .holds)
+
+-- the d-th after i
+unfoldable pub piece : Book → ℕ → ℕ → List ℕ
+piece k i d = when (clash k i (suc i + d)) (i ∷ (suc i + d) ∷ [])
+
+pub piece-is : (k : Book) (i j : ℕ) → i < j → piece k i (j - (i + 1)) ≡ when (clash k i j) (i ∷ j ∷ [])
+unfolding piece
+piece-is k i j h = let e : suc i + (j - (i + 1)) ≡ j = omega arith in ap (λ m. when (clash k i m) (i ∷ m ∷ [])) e
+
+pub row-pieces : (k : Book) (i n : ℕ) → n ≡ length (k .templates) → rowBytes k i ≡ each (upTo (n - (i + 1))) (piece k i)
+unfolding rowBytes piece
+row-pieces k i n h =
+    let e : suc i ≡ suc i + 0 = omega arith in
+    let m : length (k .templates) - suc i ≡ n - (i + 1) = omega arith in
+    ap (λ c. each (from (suc i) c) (λ j. when (clash k i j) (i ∷ j ∷ []))) m
+    ∙ ap (λ c. each (from c (n - (i + 1))) (λ j. when (clash k i j) (i ∷ j ∷ []))) e
+    ∙ each-from (λ j. when (clash k i j) (i ∷ j ∷ [])) (suc i) 0 (n - (i + 1))

@@ -1,0 +1,117 @@
+// The list of a book: which of its templates clash. Of every two the question is written as a sheet and settled, without an order, since the verdict alone
+// counts. The list is made in a buffer of its own, so that nothing is written to the lent one before it is known to be long enough.
+use book_question::MOST_QUESTION;
+use book_question::put_question;
+use scan::stretch;
+use words::put;
+ghost use mathlib.Core.Path.{_≡_};
+ghost use mathlib.Core.List.{[], _∷_};
+ghost use Prim.Native.Nat.{_+_, _<_, _≤_};
+ghost use lib.ListN.{length};
+ghost use Rattle.model.specs.Lists.{when, Puts};
+ghost use Rattle.calls.specs.Calls.{comparing, Decides};
+ghost use Rattle.book.specs.Book.{bookOf, Admitted};
+ghost use Rattle.book.specs.Pairs.{listBytes, rowBytes};
+ghost use Rattle.book.specs.Pairs as model;
+ghost use Rattle.book_list.specs.Answer.{numberOf, compared};
+
+// What is refused, by document 02's numbers: what reading a book refuses, and 42.
+pub enum Refusal {
+    Book(book_read::Refusal),
+    Room,
+}
+
+// The answer: how many pairs of templates clash.
+pub enum Compared {
+    Listed(usize),
+    Refused(Refusal),
+}
+
+// Document 02's number of a refusal.
+pub fn number(refusal: Refusal) -> u8
+    ensures { λ r. ⌜ r ≡ numberOf refusal ⌝ }
+{
+    match refusal {
+        Refusal::Book(found) => book_read::number(found),
+        Refusal::Room => 42,
+    }
+}
+
+// The greatest size of a list: two bytes for each two of 16 templates.
+const MOST_LIST: usize = 240;
+
+// Whether templates i and j clash.
+fn clash(book: &[u8], i: usize, j: usize) -> bool
+    requires { ⌜ Admitted (now book) × (i < length (bookOf (now book) .templates)) × (j < length (bookOf (now book) .templates)) ⌝ }
+    ensures { λ r. ⌜ r ≡ model.clash (bookOf (now (book .entry))) i j ⌝ }
+{
+    let mut question = [0; MOST_QUESTION];
+    let n = put_question(&mut question, book, i, j);
+    let found = solution::solve(stretch(&question, 0, n), false);
+    found.ok
+}
+
+// Templates i and j, if they clash, at an offset. Returns the offset past them.
+fn put_pair(list: &mut [u8], at: usize, book: &[u8], i: usize, j: usize) -> usize
+    requires { ⌜ Admitted (now book) × (i < j) × (j < length (bookOf (now book) .templates)) × (at + length (when (model.clash (bookOf (now book)) i j) (i ∷ j ∷ [])) ≤ length (now list)) ⌝ }
+    ensures { λ r. ⌜ Puts (now (list .entry)) at (when (model.clash (bookOf (now (book .entry))) i j) (i ∷ j ∷ [])) (now (list .exit)) r ⌝ }
+{
+    if !clash(book, i, j) {
+        return at;
+    }
+    put(list, at, &[i as u8, j as u8])
+}
+
+// The pairs that clash with template i as the first, of a book of n templates. Returns the offset past them.
+fn put_row(list: &mut [u8], at: usize, book: &[u8], i: usize, n: usize) -> usize
+    requires { ⌜ Admitted (now book) × (n ≡ length (bookOf (now book) .templates)) × (i < n) × (at + length (rowBytes (bookOf (now book)) i) ≤ length (now list)) ⌝ }
+    ensures { λ r. ⌜ Puts (now (list .entry)) at (rowBytes (bookOf (now (book .entry))) i) (now (list .exit)) r ⌝ }
+{
+    let mut past = at;
+    let mut j = i + 1;
+    while j < n {
+        past = put_pair(list, past, book, i, j);
+        j += 1;
+    }
+    past
+}
+
+// The whole list, at the front of the buffer. Returns its length.
+fn put_list(list: &mut [u8], book: &[u8]) -> usize
+    requires { ⌜ Admitted (now book) × (length (listBytes (bookOf (now book))) ≤ length (now list)) ⌝ }
+    ensures { λ r. ⌜ Puts (now (list .entry)) 0 (listBytes (bookOf (now (book .entry)))) (now (list .exit)) r ⌝ }
+{
+    let n = book_parts::count(book);
+    let mut past: usize = 0;
+    let mut i: usize = 0;
+    while i < n {
+        past = put_row(list, past, book, i, n);
+        i += 1;
+    }
+    past
+}
+
+// The list of an accepted book.
+fn hand_over(book: &[u8], list: &mut [u8]) -> Compared
+    requires { ⌜ Admitted (now book) ⌝ }
+    ensures { λ r. ⌜ Decides (comparing (now (book .entry)) (length (now (list .entry)))) (now (list .entry)) (compared r) (now (list .exit)) ⌝ }
+{
+    let mut own = [0; MOST_LIST];
+    let n = put_list(&mut own, book);
+    if list.len() < n {
+        return Compared::Refused(Refusal::Room);
+    }
+    put(list, 0, stretch(&own, 0, n));
+    Compared::Listed(n / 2)
+}
+
+// Lists which templates of a book clash, two bytes for each pair of them, by the first and then by the second, at the front of the buffer; and answers how many
+// pairs there are. Else the first refusal in document 02's order. Any bytes are allowed. Bytes after the list, and refused all, are as they were.
+pub fn compare(book: &[u8], list: &mut [u8]) -> Compared
+    ensures { λ r. ⌜ Decides (comparing (now (book .entry)) (length (now (list .entry)))) (now (list .entry)) (compared r) (now (list .exit)) ⌝ }
+{
+    match book_read::read(book) {
+        book_read::Reading::Refused(refusal) => Compared::Refused(Refusal::Book(refusal)),
+        book_read::Reading::Accepted => hand_over(book, list),
+    }
+}
