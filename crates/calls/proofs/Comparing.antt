@@ -7,14 +7,15 @@ use native.Mathlib.Omega.{arith}
 use lib.Dec.{leb}
 use lib.ListN.{length, take, drop}
 use borrow.Author.Tests.{le-leb, lt-leb, leb-true}
-use Rattle.model.specs.Lists.{pick}
+use Rattle.model.specs.Lists.{pick, Bytes}
 use Rattle.model.specs.Sheet.{Step, got, fault}
 use Rattle.book.specs.Book as book
 use Rattle.book.specs.Book.{Book, body, opens, ended, readBook, bookIn, bookOf, Admitted}
 use Rattle.book.specs.Pairs.{clashing, listBytes}
 use Rattle.calls.specs.Calls.{Answer, refused, finished, require, written, decision, following, Decides, ofBook, listValues, comparingOf, comparing}
 use Rattle.model.proofs.Lists.{by-test}
-use Rattle.book.proofs.Reading.{read-prefix}
+use Rattle.book.proofs.Reading.{read-prefix, accepted-encode}
+use Rattle.book.proofs.Listed.{clashing-few}
 use Rattle.calls.proofs.Operations.{not-finished}
 use Rattle.calls.proofs.Refusals.{NotZero, not-zero, not-zero-require}
 
@@ -52,6 +53,19 @@ comparing-refused b room = not-zero (comparing b room) (by-book (readBook b) (bo
     by-book : (r : book.Reading) → ((n : ℕ) → r ≡ book.refused n → (40 ≤ n) × (n ≤ 41)) → NotZero (ofBook r (λ k. comparingOf k room))
     by-book (book.accepted k) h = not-zero-require (leb (length (listBytes k)) room) 42 _ (omega arith) tt
     by-book (book.refused n) h = let m = h n refl in omega arith
+
+-- and an answer that is finished has a number
+pub comparing-counts : (b : List ℕ) (room : ℕ) → comparing b room ≡ finished [] → ⊥
+unfolding comparing comparingOf
+comparing-counts b room e = by-book (readBook b) e
+  where
+    by-room : (k : Book) (t : Bool) → pick t (finished (listValues k)) (refused 42) ≡ finished [] → ⊥
+    by-room k true q = let z : _≡_ {A = ℕ} 0 1 = cc in omega arith
+    by-room k false q = not-finished q
+
+    by-book : (r : book.Reading) → ofBook r (λ k. comparingOf k room) ≡ finished [] → ⊥
+    by-book (book.accepted k) q = by-room k (leb (length (listBytes k)) room) q
+    by-book (book.refused n) q = not-finished q
 
 -- The first 288 bytes decide.
 pub comparing-prefix : (b : List ℕ) (room : ℕ) → comparing b room ≡ comparing (take 288 b) room
@@ -103,3 +117,14 @@ module _ (b before after values : List ℕ) where
   pub compared : Decides (comparing b (length before)) before (finished values) after → Compared b before after values
   unfolding comparing
   compared call = by-book (readBook b) refl (call .0) (call .1)
+
+  -- and there are no more than 120
+  pub few : Bytes b → (n : ℕ) → values ≡ n ∷ [] → Decides (comparing b (length before)) before (finished values) after → n ≤ 120
+  few y n e call =
+      let c = compared call in
+      let ok = accepted-encode b y (c .admitted) .1 in
+      let m : n ≡ length (clashing (bookOf b)) = first-same (sym e ∙ c .number) in
+      omega (arith, clashing-few (bookOf b) (ok .of-templates .1))
+    where
+      first-same : {m n : ℕ} → _≡_ {A = List ℕ} (m ∷ []) (n ∷ []) → m ≡ n
+      first-same e = cc

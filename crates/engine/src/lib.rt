@@ -2,7 +2,7 @@
 // untouched on a refusal. Each is one call of a function below it with the same contract, which does the work.
 ghost use mathlib.Core.Path.{_≡_};
 ghost use lib.ListN.{length};
-ghost use Rattle.calls.specs.Calls.{reading, checking, spelling, searching, counting, writing, replying};
+ghost use Rattle.calls.specs.Calls.{reading, checking, spelling, searching, counting, writing, replying, comparing};
 ghost use Rattle.c_answer.specs.Returned.{returned, lentAfter, returnedNumber, Handed, HandedOver, Decided};
 
 // Reads a sheet of any bytes. Returns 0, with its four counts (letters, fields, pairs, rules) in `counts`; or minus
@@ -72,4 +72,13 @@ pub extern "C" fn tpl_reply(sheet: &[u8], reply: &[u8], filling: &mut [u8]) -> i
     ensures { λ r. ⌜ HandedOver (replying (now (sheet .entry)) (now (reply .entry)) (length (now (filling .entry)))) (now (filling .entry)) r (now (filling .exit)) ⌝ }
 {
     c_replies::reply(sheet, reply, filling)
+}
+
+// Lists which templates of a book clash, two bytes for each pair of them in `list`, by the first and then by the second. Returns the number of pairs, with later
+// bytes as they were; or minus document 02's number of the first refusal, with all bytes as they were.
+#[no_mangle]
+pub extern "C" fn tpl_book(book: &[u8], list: &mut [u8]) -> i64
+    ensures { λ r. ⌜ Decided (comparing (now (book .entry)) (length (now (list .entry)))) (now (list .entry)) r (now (list .exit)) ⌝ }
+{
+    c_book::book(book, list)
 }
