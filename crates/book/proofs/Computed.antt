@@ -9,7 +9,7 @@ use Rattle.model.specs.Sheet.{letter, field, row, times, width}
 use Rattle.model.specs.Word.{spell, sameWord, equationHolds, constraintHolds, keeps, solves}
 use Rattle.model.specs.Solvable.{allTexts, substitutions, solvable}
 use Rattle.book.specs.Book.{Book, mark, count, someSymbols, aTemplate, someTemplates, body, opens, accepted, refused, readBook}
-use Rattle.book.specs.Pairs.{asked, question, Pair, pairs, clashing}
+use Rattle.book.specs.Pairs.{asked, question, Pair, pairs, clashing, listBytes}
 
 -- a book of version 1 from its letter count on
 abbrev pub book : List ℕ → List ℕ
@@ -78,6 +78,11 @@ own-fields = record {
 pub clashing-of-own : clashing own-fields ≡ record { first = 0; second = 1 } ∷ []
 unfolding clashing pairs keep each from asked solvable substitutions allTexts any all solves equationHolds constraintHolds sameWord keeps same spell
 clashing-of-own = refl
+
+-- and the list's bytes
+pub bytes-of-own : listBytes own-fields ≡ 0 ∷ 1 ∷ []
+unfolding listBytes clashing pairs keep each from asked solvable substitutions allTexts any all solves equationHolds constraintHolds sameWord keeps same spell
+bytes-of-own = refl
 
 -- a damaged book and its refusal
 pub record Case : Type 0 where

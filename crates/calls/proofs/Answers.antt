@@ -1,4 +1,4 @@
--- Checking, spelling, counting, writing lines and searching, computed: inputs with their answers, most of the damaged ones with two faults at once,
+-- Checking, spelling, counting, writing lines, searching and comparing a book's templates, computed: inputs with their answers, most of the damaged ones with two faults at once,
 -- so that the order of the refusals is a theorem. Assumes nothing.
 use mathlib.Core.Path.{_≡_, refl}
 use mathlib.Core.List.{List, [], _∷_, _++_, map}
@@ -14,8 +14,12 @@ use Rattle.model.specs.Cells.{cells}
 use Rattle.formula.specs.Clause.{terms, leftOut, literals, least, spread, sums, placeIds, locationIds, equationIds, constraintIds, listed, ids}
 use Rattle.formula.specs.Numbering.{kVariables, sVariables, tVariables, variables, number, clause}
 use Rattle.formula.specs.Dimacs.{digits, decimal, problemLine, clauseLine, line}
-use Rattle.calls.specs.Calls.{Answer, refused, finished, checking, spellingOf, spelling, written, searchingOf, searching, counting, writingOf, writing}
+use Rattle.calls.specs.Calls.{Answer, refused, finished, checking, spellingOf, spelling, written, searchingOf, searching, counting, writingOf, writing, comparingOf, comparing}
 use Rattle.model.proofs.Computed.{sheet, P}
+use Rattle.book.specs.Book.{mark, count, someSymbols, aTemplate, someTemplates, body, opens, readBook}
+use Rattle.book.specs.Pairs.{pairs, clashing, listBytes}
+use Rattle.book.specs.Pairs as question
+use Rattle.book.proofs.Computed.{book, three-bytes}
 
 -- over A and B the fields X of limit 2 and Y of limit 1, and the pairs XAY, AY and Y, nothing
 abbrev pub asked : List ℕ
@@ -196,3 +200,35 @@ pub search-prints : map searchPrinted (P ∷ sheet 1 1 1 0 (65 ∷ 0 ∷ 1 ∷ 1
     ∷ []
 unfolding startsWith row times sides anEquation aConstraint walk width signed opening read each from all any same spell weight sameWord equationHolds constraintHolds keeps solves allTexts substitutions solvable keep totalLength fieldLetters ranks lex earliest firstSolution digits decimal refusedLine report searchPrinted
 search-prints = refl
+
+-- A book's list: the number of pairs, and their bytes.
+pub record Compare : Type 0 where
+  pub on : List ℕ
+  pub room : ℕ
+  pub answer : Answer
+
+abbrev _with_gives_ : List ℕ → ℕ → Answer → Compare
+_with_gives_ b n a = record { on = b; room = n; answer = a }
+
+infix 5 _with_gives_
+abbrev compares : List Compare
+compares =
+    -- of three templates the first two clash: two bytes, in a buffer that is longer, just long enough, and one byte too short
+    (three-bytes with 240 gives finished (1 ∷ 0 ∷ 1 ∷ []))
+    ∷ (three-bytes with 2 gives finished (1 ∷ 0 ∷ 1 ∷ []))
+    ∷ (three-bytes with 1 gives refused 42)
+    -- the same damaged, with no buffer at all: 41 and 40 come before 42, and 40 before 41
+    ∷ (three-bytes ++ (0 ∷ []) with 0 gives refused 41)
+    ∷ (mark ++ (0 ∷ 2 ∷ 2 ∷ 65 ∷ 66 ∷ []) with 0 gives refused 40)
+    -- three templates, all empty: each two of them, by the first and then by the second
+    ∷ (book (1 ∷ 65 ∷ 3 ∷ 0 ∷ 0 ∷ 0 ∷ 0 ∷ 0 ∷ 0 ∷ []) with 6 gives finished (3 ∷ 0 ∷ 1 ∷ 0 ∷ 2 ∷ 1 ∷ 2 ∷ []))
+    ∷ (book (1 ∷ 65 ∷ 3 ∷ 0 ∷ 0 ∷ 0 ∷ 0 ∷ 0 ∷ 0 ∷ []) with 5 gives refused 42)
+    -- one template alone: an empty list fits an empty buffer
+    ∷ (book (1 ∷ 65 ∷ 1 ∷ 0 ∷ 0 ∷ []) with 0 gives finished (0 ∷ []))
+    -- A and AA: none
+    ∷ (book (1 ∷ 65 ∷ 2 ∷ 0 ∷ 1 ∷ 0 ∷ 0 ∷ 2 ∷ 0 ∷ 0 ∷ []) with 0 gives finished (0 ∷ []))
+    ∷ []
+
+pub compare-answers : map (λ (c : Compare). comparing (c .on) (c .room)) compares ≡ map (λ (c : Compare). c .answer) compares
+unfolding startsWith row times width count someSymbols aTemplate someTemplates body opens readBook each from all any same spell weight sameWord equationHolds constraintHolds keeps solves allTexts substitutions solvable keep question.asked pairs clashing listBytes comparingOf comparing
+compare-answers = refl

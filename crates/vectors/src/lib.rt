@@ -28,3 +28,12 @@ pub fn show_refused(number: u8) {
     io::write_all(STDOUT_FILENO, b": refused ");
     io::print_decimal(STDOUT_FILENO, number as u64);
 }
+
+// Prints each byte as two hexadecimal digits.
+pub fn show_bytes(bytes: &[u8]) {
+    let mut i = 0;
+    while i < bytes.len() {
+        io::print_hex(STDOUT_FILENO, bytes[i] as u64, 2);
+        i += 1;
+    }
+}

@@ -12,6 +12,7 @@ use hex::signed;
 use libc::STDIN_FILENO;
 use libc::STDOUT_FILENO;
 use vectors::next;
+use vectors::show_bytes;
 use vectors::show_refused;
 ghost use mathlib.Core.Path.{_≡_};
 ghost use Prim.Native.Nat.{_≤_};
@@ -153,13 +154,4 @@ fn show_reply(sheet: &[u8], text: &[u8], buf: &mut [u8]) {
     io::write_all(STDOUT_FILENO, b" |");
     show_bytes(buf);
     io::write_all(STDOUT_FILENO, b"|\n");
-}
-
-// Prints each byte as two hexadecimal digits.
-fn show_bytes(bytes: &[u8]) {
-    let mut i = 0;
-    while i < bytes.len() {
-        io::print_hex(STDOUT_FILENO, bytes[i] as u64, 2);
-        i += 1;
-    }
 }

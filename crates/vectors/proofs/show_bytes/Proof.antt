@@ -1,9 +1,9 @@
--- `vectors_reply::show_bytes` is safe. Nothing has to hold from turn to turn: the measure is how many bytes are left. Assumes nothing.
+-- `vectors::show_bytes` is safe. Nothing has to hold from turn to turn: the measure is how many bytes are left. Assumes nothing.
 use Prim.Native.Nat.{_-_}
 use native.Mathlib.Omega.{arith}
 use lib.ListN.{length}
-use Rattle.vectors_reply.proofs.show_bytes.Statement.{statement}
-use Rattle.vectors_reply.proofs.show_bytes.Tie as tie
+use Rattle.vectors.proofs.show_bytes.Statement.{statement}
+use Rattle.vectors.proofs.show_bytes.Tie as tie
 
 abbrev Inv-loop : tie.InvT-loop
 Inv-loop bytes i₀ i = Unit {0}
