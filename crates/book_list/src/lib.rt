@@ -91,18 +91,26 @@ fn put_list(list: &mut [u8], book: &[u8]) -> usize
     past
 }
 
+// The list of an accepted book, made in a buffer that is long enough for any.
+fn deliver(book: &[u8], own: &mut [u8], list: &mut [u8]) -> Compared
+    requires { ⌜ Admitted (now book) × (240 ≤ length (now own)) ⌝ }
+    ensures { λ r. ⌜ Decides (comparing (now (book .entry)) (length (now (list .entry)))) (now (list .entry)) (compared r) (now (list .exit)) ⌝ }
+{
+    let n = put_list(own, book);
+    if list.len() < n {
+        return Compared::Refused(Refusal::Room);
+    }
+    put(list, 0, stretch(own, 0, n));
+    Compared::Listed(n / 2)
+}
+
 // The list of an accepted book.
 fn hand_over(book: &[u8], list: &mut [u8]) -> Compared
     requires { ⌜ Admitted (now book) ⌝ }
     ensures { λ r. ⌜ Decides (comparing (now (book .entry)) (length (now (list .entry)))) (now (list .entry)) (compared r) (now (list .exit)) ⌝ }
 {
     let mut own = [0; MOST_LIST];
-    let n = put_list(&mut own, book);
-    if list.len() < n {
-        return Compared::Refused(Refusal::Room);
-    }
-    put(list, 0, stretch(&own, 0, n));
-    Compared::Listed(n / 2)
+    deliver(book, &mut own, list)
 }
 
 // Lists which templates of a book clash, two bytes for each pair of them, by the first and then by the second, at the front of the buffer; and answers how many
