@@ -5,6 +5,9 @@
 //! Its words are a seed and for how many seconds to climb. Before them `--keep FILE` may stand: the
 //! slowest sheet's bytes are then written to the file. It runs in the repository's folder.
 
+#[path = "../../tests/outside/book.rs"]
+#[allow(dead_code)]
+mod book;
 #[path = "../../tests/outside/engine.rs"]
 #[allow(dead_code)]
 mod engine;

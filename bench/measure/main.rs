@@ -8,6 +8,9 @@
 #[path = "../../tests/outside/assignment.rs"]
 #[allow(dead_code)]
 mod assignment;
+#[path = "../../tests/outside/book.rs"]
+#[allow(dead_code)]
+mod book;
 #[path = "../../tests/outside/engine.rs"]
 #[allow(dead_code)]
 mod engine;

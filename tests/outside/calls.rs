@@ -2,6 +2,7 @@
 //! C header lists for this call, no byte changed that the call may not write, and the same call
 //! answers the same again. It knows the ranges of answers, and not which answer is right.
 
+use crate::book::{MOST_TEMPLATES, PAIR_BYTES};
 use crate::engine::{self, buffer_before, filling_bytes, Outcome, COUNTS_BEFORE};
 use crate::listed::{self, Call, LONGEST_LINE, LONGEST_TEXT};
 use crate::reader::{HEADER_BYTES, MOST_FIELDS, MOST_LETTERS, MOST_PAIRS, MOST_RULES};
@@ -25,6 +26,8 @@ pub struct Calls {
     pub reached: Vec<Reached>,
     /// Clashes that were compared with the one that the search gives, which none may be before.
     pub compared: Tally,
+    /// What was wrong with the books that were refused.
+    pub faults: Tally,
     tallies: Vec<Tally>,
 }
 
@@ -34,6 +37,7 @@ impl Calls {
             made: 0,
             reached: Vec::new(),
             compared: Tally::new("other clashes", &["the search's own", "a later one"], 0..0),
+            faults: listed::faults(),
             tallies: listed::tallies(),
         }
     }
@@ -149,8 +153,29 @@ impl Calls {
         })
     }
 
+    /// `tpl_book`; a list is of pairs of numbers, each above the one before it.
+    pub fn book(&mut self, book: &[u8], room: usize) -> Outcome<u8> {
+        let before = buffer_before(room);
+        let case: &Case = &[("book", &Hex(book)), ("buffer of", &room)];
+        let got = self.hold(Call::Book, &before, 0, case, || engine::book(book, room));
+        if got.status > 0 {
+            let list = &got.lent[..PAIR_BYTES * got.status as usize];
+            let pairs: Vec<&[u8]> = list.chunks(PAIR_BYTES).collect();
+            let are_pairs = pairs
+                .iter()
+                .all(|pair| pair[0] < pair[1] && usize::from(pair[1]) < MOST_TEMPLATES);
+            let rise = pairs.windows(2).all(|two| two[0] < two[1]);
+            require(
+                are_pairs && rise,
+                "a list has no form of a list",
+                &[case, &[("list", &got)]].concat(),
+            );
+        }
+        got
+    }
+
     /// Makes a call that is lent `before`, and that may write the first `most` values of it, or as many
-    /// as it answers where it answers a length.
+    /// as it answers where it answers a length or a number of pairs.
     fn hold<T: Debug + PartialEq>(
         &mut self,
         call: Call,
@@ -163,6 +188,7 @@ impl Calls {
         let written = match call {
             _ if got.status < 0 => 0,
             Call::Spell | Call::Line => got.status as usize,
+            Call::Book => PAIR_BYTES.saturating_mul(got.status as usize),
             _ => most,
         };
         let again = || self.made % AGAIN != 0 || run() == got;
@@ -195,13 +221,15 @@ impl Calls {
             _ => 0,
         };
         if call == Call::Read || !listed::is_of_sheet(status) {
-            self.reached.push((call, status, size));
+            self.reached
+                .push((call, listed::kept_for(call, status), size));
         }
     }
 
     /// Prints how often each answer came up, and fails if one came up less often than `least`.
     pub fn finish(&self, least: usize) {
-        for tally in self.tallies.iter().chain([&self.compared]) {
+        let beside = [&self.compared, &self.faults];
+        for tally in self.tallies.iter().chain(beside) {
             tally.finish_on_a_line(least);
         }
     }

@@ -1,6 +1,7 @@
 //! The calls of the static library under test, each wrapped so that everything a call may change is
 //! looked at after it.
 
+use crate::book::PAIR_BYTES;
 use crate::lent::Lent;
 use crate::speller::{Spelling, FIELD_BYTES};
 use std::fmt;
@@ -44,6 +45,9 @@ extern "C" {
         filling: *mut u8,
         cap: usize,
     ) -> i64;
+
+    /// Answers the number of pairs and the list, or minus the refusal's number and no list.
+    fn tpl_book(book: *const u8, n: usize, list: *mut u8, cap: usize) -> i64;
 }
 
 /// What one call answered and left behind.
@@ -231,5 +235,18 @@ pub fn reply(sheet: &[u8], reply: &[u8], room: usize) -> Outcome<u8> {
         status,
         lent: filling.after(written),
         rest_unchanged: bytes.unchanged() && text.unchanged() && filling.margins_unchanged(),
+    }
+}
+
+/// Calls `tpl_book` on a copy of `book`, with a buffer of `room` bytes.
+pub fn book(book: &[u8], room: usize) -> Outcome<u8> {
+    let mut bytes = Lent::to_read(book, &SHEET_MARGIN);
+    let mut list = Lent::to_write(&buffer_before(room), &WRITTEN_MARGIN);
+    // The pointers lead to `book.len()` and `room` bytes.
+    let status = unsafe { tpl_book(bytes.pointer(), book.len(), list.pointer(), room) };
+    Outcome {
+        status,
+        lent: list.after(PAIR_BYTES.saturating_mul(status.max(0) as usize)),
+        rest_unchanged: bytes.unchanged() && list.margins_unchanged(),
     }
 }

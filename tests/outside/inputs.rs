@@ -2,6 +2,8 @@
 //! knows the layouts, and nothing of which answer an input leads to.
 
 use crate::assignment::Numbered;
+use crate::book::MOST_LIST_BYTES;
+use crate::books;
 use crate::fillings;
 use crate::planted;
 use crate::random::Random;
@@ -21,6 +23,7 @@ pub struct Input {
     pub sheet: Vec<u8>,
     pub filling: Vec<u8>,
     pub reply: Vec<u8>,
+    pub book: Vec<u8>,
     pub pair: u64,
     pub side: u64,
     pub line: u64,
@@ -42,8 +45,9 @@ impl Input {
 
 /// An assignment of more variables is not listed, since that takes long.
 const MOST_LISTED: usize = 1000;
-/// A sheet does not grow beyond this.
-const LONGEST_SHEET: usize = 1000;
+/// A sheet or a book does not grow beyond this.
+const LONGEST: usize = 1000;
+const DAMAGED_BOOK_PERCENT: usize = 15;
 const DAMAGED_SHEET_PERCENT: usize = 15;
 const DAMAGED_FILLING_PERCENT: usize = 25;
 /// One new reply in so many is about as long as a reply can be.
@@ -71,6 +75,7 @@ pub fn new(random: &mut Random) -> Input {
         sheet,
         filling,
         reply,
+        book: book(random),
         pair: 0,
         side: 0,
         line: 0,
@@ -88,6 +93,32 @@ fn noise(random: &mut Random) -> (Vec<u8>, Vec<u8>, Vec<u8>) {
         random.bytes(n)
     };
     (bytes(), bytes(), bytes())
+}
+
+/// A book, most often a small one, since a large one takes long; some damaged, some of any bytes.
+fn book(random: &mut Random) -> Vec<u8> {
+    let mut bytes = match random.below(32) {
+        0 => {
+            let n = random.below(40);
+            random.bytes(n)
+        }
+        1 | 2 => {
+            let bytes = books::encode(&books::valid(random));
+            sheets::cut_and_noise(random, bytes)
+        }
+        3 => books::encode(&books::valid(random)),
+        4 => books::encode(&books::clashing(random)),
+        5 | 6 => {
+            let mut book = books::small(random);
+            books::go_beyond(random, &mut book);
+            books::encode(&book)
+        }
+        _ => books::encode(&books::small(random)),
+    };
+    if random.chance(DAMAGED_BOOK_PERCENT) {
+        sheets::damage(random, &mut bytes);
+    }
+    bytes
 }
 
 /// A valid sheet, a filling of it and a reply to it, some of them damaged.
@@ -191,7 +222,7 @@ fn room(random: &mut Random) -> usize {
         1 => random.below(24),
         2 => random.below(100),
         3 => (FIELD_BYTES * random.below(7) + random.below(3)).saturating_sub(1),
-        4 => random.one_of(&[24, 54, 80, 256, 4096]),
+        4 => random.one_of(&[24, 54, 80, MOST_LIST_BYTES, 256, 4096]),
         _ => random.within(80, 100),
     }
 }
@@ -199,42 +230,44 @@ fn room(random: &mut Random) -> usize {
 /// Changes one to three things of an input, some to what they are in another one.
 pub fn change(random: &mut Random, input: &mut Input, other: &Input) {
     for _ in 0..random.within(1, 3) {
-        match random.below(8) {
-            0 | 1 => change_sheet(random, &mut input.sheet, &other.sheet),
+        match random.below(10) {
+            0 | 1 => change_part(random, &mut input.sheet, &other.sheet),
             2 => refill(random, input),
             3 => change_bytes(random, &mut input.filling),
             4 => texts::damage(random, &mut input.reply),
             5 => input.filling = other.filling.clone(),
             6 => input.reply = other.reply.clone(),
+            7 => change_part(random, &mut input.book, &other.book),
+            8 => input.book = book(random),
             _ => renumber(random, input),
         }
     }
 }
 
-/// Damages a sheet, crosses it with another one, or makes it longer or shorter.
-fn change_sheet(random: &mut Random, sheet: &mut Vec<u8>, other: &[u8]) {
-    let place = random.below(sheet.len() + 1);
-    let end = random.within(place, sheet.len());
+/// Damages a sheet or a book, crosses it with another one, or makes it longer or shorter.
+fn change_part(random: &mut Random, bytes: &mut Vec<u8>, other: &[u8]) {
+    let place = random.below(bytes.len() + 1);
+    let end = random.within(place, bytes.len());
     match random.below(8) {
         0 | 1 => {
             let any = random.below(other.len() + 1);
             let from = random.one_of(&[place.min(other.len()), any]);
-            sheet.splice(place.., other[from..].iter().copied());
+            bytes.splice(place.., other[from..].iter().copied());
         }
         2 => {
-            let stretch = sheet[place..end].to_vec();
-            sheet.splice(place..place, stretch);
+            let stretch = bytes[place..end].to_vec();
+            bytes.splice(place..place, stretch);
         }
         3 => {
-            sheet.drain(place..end);
+            bytes.drain(place..end);
         }
         4 => {
             let n = random.one_of(&[1, 8, 160, 400]);
-            sheet.extend(random.bytes(n));
+            bytes.extend(random.bytes(n));
         }
-        _ => sheets::damage(random, sheet),
+        _ => sheets::damage(random, bytes),
     }
-    sheet.truncate(LONGEST_SHEET);
+    bytes.truncate(LONGEST);
 }
 
 /// Gives an input a filling of its sheet and a reply to it, if its sheet has fillings.

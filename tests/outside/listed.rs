@@ -1,5 +1,6 @@
 //! What the C header lists for each call: the range of its answers, and its refusals.
 
+use crate::book::{FAULTS, MOST_PAIRS};
 use crate::tally::{Answer, Tally};
 use crate::writing;
 use std::ops::RangeInclusive;
@@ -8,14 +9,13 @@ use std::ops::RangeInclusive;
 const SHORTEST_LINE: i64 = 4;
 pub const LONGEST_LINE: usize = writing::ROOMY;
 pub const LONGEST_TEXT: usize = 24;
-/// The refusals of a sheet, which every call has.
-const SHEET_REFUSALS: RangeInclusive<i64> = 1..=15;
+/// The refusals of a sheet, which every call that is given one has.
+const OF_SHEET: RangeInclusive<i64> = 1..=15;
 
 /// What one of the calls may return.
 struct Listed {
     name: &'static str,
     answers: RangeInclusive<i64>,
-    /// The refusals beside those of a sheet.
     refusals: &'static [RangeInclusive<i64>],
     /// A word for an answer, and all such words.
     kind: fn(i64) -> &'static str,
@@ -32,28 +32,29 @@ pub enum Call {
     Count,
     Line,
     Reply,
+    Book,
 }
 
 /// All calls, in the order of `Call`.
-static LISTED: [Listed; 7] = [
+static LISTED: [Listed; 8] = [
     Listed {
         name: "tpl_read",
         answers: 0..=0,
-        refusals: &[],
+        refusals: &[OF_SHEET],
         kind: |_| "accepted",
         kinds: &["accepted"],
     },
     Listed {
         name: "tpl_check",
         answers: 0..=1,
-        refusals: &[20..=23],
+        refusals: &[OF_SHEET, 20..=23],
         kind: |status| ["no clash", "clash"][status as usize],
         kinds: &["clash", "no clash"],
     },
     Listed {
         name: "tpl_spell",
         answers: 0..=LONGEST_TEXT as i64,
-        refusals: &[20..=26],
+        refusals: &[OF_SHEET, 20..=26],
         kind: |status| match status {
             0 => "empty",
             1..=23 => "1 to 23",
@@ -64,21 +65,21 @@ static LISTED: [Listed; 7] = [
     Listed {
         name: "tpl_search",
         answers: 0..=1,
-        refusals: &[27..=27],
+        refusals: &[OF_SHEET, 27..=27],
         kind: |status| ["apart", "clash"][status as usize],
         kinds: &["clash", "apart"],
     },
     Listed {
         name: "tpl_count",
         answers: 0..=0,
-        refusals: &[],
+        refusals: &[OF_SHEET],
         kind: |_| "counted",
         kinds: &["counted"],
     },
     Listed {
         name: "tpl_line",
         answers: SHORTEST_LINE..=LONGEST_LINE as i64,
-        refusals: &[28..=29],
+        refusals: &[OF_SHEET, 28..=29],
         kind: |status| match status {
             0..=9 => "4 to 9",
             10..=24 => "10 to 24",
@@ -89,15 +90,42 @@ static LISTED: [Listed; 7] = [
     Listed {
         name: "tpl_reply",
         answers: 0..=0,
-        refusals: &[27..=27, 30..=39],
+        refusals: &[OF_SHEET, 27..=27, 30..=39],
         kind: |_| "accepted",
         kinds: &["accepted"],
     },
+    Listed {
+        name: "tpl_book",
+        answers: 0..=MOST_PAIRS as i64,
+        refusals: &[40..=42],
+        kind: book_kind,
+        kinds: &BOOK_KINDS,
+    },
 ];
+
+/// How many templates of a book clash.
+pub const BOOK_KINDS: [&str; 3] = ["none", "some", "all of 16"];
+
+/// A word for how many pairs of templates are listed.
+pub fn book_kind(pairs: i64) -> &'static str {
+    match pairs {
+        0 => BOOK_KINDS[0],
+        _ if pairs < MOST_PAIRS as i64 => BOOK_KINDS[1],
+        _ => BOOK_KINDS[2],
+    }
+}
+
+/// What an input that leads to this status is kept for. Of books all lists with some pairs are one.
+pub fn kept_for(call: Call, status: i64) -> i64 {
+    match (call, status) {
+        (Call::Book, 1..) if book_kind(status) == BOOK_KINDS[1] => 1,
+        _ => status,
+    }
+}
 
 /// Is this a refusal of the sheet?
 pub fn is_of_sheet(status: i64) -> bool {
-    SHEET_REFUSALS.contains(&status.wrapping_neg())
+    OF_SHEET.contains(&status.wrapping_neg())
 }
 
 /// The call's name in the header.
@@ -109,22 +137,30 @@ pub fn name(call: Call) -> &'static str {
 pub fn answer(call: Call, status: i64) -> Option<Answer> {
     let listed = &LISTED[call as usize];
     let refusal = status.checked_neg()?;
-    let mut own = listed.refusals.iter();
+    let mut refusals = listed.refusals.iter();
     if listed.answers.contains(&status) {
         Some(Ok((listed.kind)(status)))
-    } else if SHEET_REFUSALS.contains(&refusal) || own.any(|some| some.contains(&refusal)) {
+    } else if refusals.any(|some| some.contains(&refusal)) {
         Some(Err(refusal as u8))
     } else {
         None
     }
 }
 
+/// A tally of all that can be wrong with a book.
+pub fn faults() -> Tally {
+    Tally::new("books refused for", &FAULTS.map(|(_, name)| name), 0..0)
+}
+
 /// For each call a tally of all that it may return.
 pub fn tallies() -> Vec<Tally> {
     let tally = |listed: &Listed| {
-        let own = listed.refusals.iter().cloned().flatten();
-        let refusals = SHEET_REFUSALS.chain(own).map(|number| number as u8);
-        Tally::new(listed.name, listed.kinds, refusals)
+        let refusals = listed.refusals.iter().cloned().flatten();
+        Tally::new(
+            listed.name,
+            listed.kinds,
+            refusals.map(|number| number as u8),
+        )
     };
     LISTED.iter().map(tally).collect()
 }

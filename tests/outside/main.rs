@@ -19,6 +19,8 @@
 
 mod answers;
 mod assignment;
+mod book;
+mod books;
 mod brute;
 mod calls;
 mod changes;
@@ -39,9 +41,11 @@ mod large;
 mod late;
 mod lent;
 mod listed;
+mod lists;
 mod met;
 mod order;
 mod orders;
+mod paired;
 mod planted;
 mod printed;
 mod question;
@@ -131,5 +135,6 @@ fn test_all() {
     brute::run(&mut test.random);
     writing::run(&mut test);
     ticking::run(&mut test.random);
+    lists::run(&mut test);
     test.finish();
 }

@@ -144,7 +144,7 @@ pub fn only_full(sheet: &mut Sheet) {
 }
 
 /// A template that spells `text`, put together by chance; none if it came out too large.
-fn template(
+pub fn template(
     random: &mut Random,
     text: &[u8],
     filling: &Filling,

@@ -120,12 +120,12 @@ fn read_header(sheet: &[u8]) -> Result<[u8; 4], Refusal> {
 }
 
 /// The bytes not yet read.
-struct Walk<'a> {
-    rest: &'a [u8],
+pub struct Walk<'a> {
+    pub rest: &'a [u8],
 }
 
 impl Walk<'_> {
-    fn next(&mut self) -> Result<u8, Refusal> {
+    pub fn next(&mut self) -> Result<u8, Refusal> {
         let (&first, rest) = self.rest.split_first().ok_or(Refusal::ByteMissing)?;
         self.rest = rest;
         Ok(first)
@@ -133,7 +133,7 @@ impl Walk<'_> {
 }
 
 /// `l` letter bytes in range, each above the one before it.
-fn read_letters(walk: &mut Walk, l: u8) -> Result<Vec<u8>, Refusal> {
+pub fn read_letters(walk: &mut Walk, l: u8) -> Result<Vec<u8>, Refusal> {
     let mut letters: Vec<u8> = Vec::new();
     for _ in 0..l {
         let letter = walk.next()?;
@@ -148,7 +148,7 @@ fn read_letters(walk: &mut Walk, l: u8) -> Result<Vec<u8>, Refusal> {
 }
 
 /// `v` limits in range.
-fn read_limits(walk: &mut Walk, v: u8) -> Result<Vec<u8>, Refusal> {
+pub fn read_limits(walk: &mut Walk, v: u8) -> Result<Vec<u8>, Refusal> {
     let mut limits = Vec::new();
     for _ in 0..v {
         let limit = walk.next()?;
@@ -172,7 +172,7 @@ fn read_pair(walk: &mut Walk, l: u8, limits: &[u8]) -> Result<Pair, Refusal> {
     Ok(Pair { left, right })
 }
 
-fn read_symbol_count(walk: &mut Walk) -> Result<usize, Refusal> {
+pub fn read_symbol_count(walk: &mut Walk) -> Result<usize, Refusal> {
     let count = usize::from(walk.next()?);
     if count > MOST_SYMBOLS {
         return Err(Refusal::SymbolCount);
@@ -181,7 +181,12 @@ fn read_symbol_count(walk: &mut Walk) -> Result<usize, Refusal> {
 }
 
 /// `count` symbols, each one of `l` letters or a field that has a limit.
-fn read_template(walk: &mut Walk, count: usize, l: u8, limits: &[u8]) -> Result<Template, Refusal> {
+pub fn read_template(
+    walk: &mut Walk,
+    count: usize,
+    l: u8,
+    limits: &[u8],
+) -> Result<Template, Refusal> {
     let mut template = Vec::new();
     for _ in 0..count {
         let byte = walk.next()?;

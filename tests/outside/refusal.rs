@@ -1,4 +1,4 @@
-//! Document 01's refusals, with its numbers.
+//! The refusals of documents 01 and 02, with their numbers.
 
 #[derive(Clone, Copy, Debug, PartialEq)]
 pub enum Refusal {
@@ -37,4 +37,7 @@ pub enum Refusal {
     PlaceValue = 37,
     LetterAfterBlank = 38,
     NoClash = 39,
+    BookMark = 40,
+    Book = 41,
+    BufferBelowList = 42,
 }

@@ -41,7 +41,7 @@ pub fn encode(sheet: &Sheet) -> Vec<u8> {
     bytes
 }
 
-fn symbol_byte(symbol: &Symbol) -> u8 {
+pub fn symbol_byte(symbol: &Symbol) -> u8 {
     match *symbol {
         Symbol::Letter(letter) => letter,
         Symbol::Field(field) => FIRST_FIELD_SYMBOL + field,
@@ -183,7 +183,7 @@ fn sheet_of(random: &mut Random, size: &Size) -> Sheet {
 }
 
 /// `l` letters, rising: next to each other, or from the whole range.
-fn letters(random: &mut Random, l: usize) -> Vec<u8> {
+pub fn letters(random: &mut Random, l: usize) -> Vec<u8> {
     let all: Vec<u8> = (LEAST_LETTER..=GREATEST_LETTER).collect();
     if random.chance(30) {
         let first = count(random, 0, all.len() - l);
@@ -278,17 +278,22 @@ fn new_byte(random: &mut Random, old: u8) -> u8 {
     }
 }
 
-/// The start of a valid sheet, followed by bytes of which most are small or at the end of a range.
+/// The start of a valid sheet, followed by noise.
 pub fn start_and_noise(random: &mut Random) -> Vec<u8> {
-    let mut sheet = encode(&valid(random));
-    sheet.truncate(random.below(sheet.len()));
+    let sheet = encode(&valid(random));
+    cut_and_noise(random, sheet)
+}
+
+/// The start of some bytes, followed by bytes of which most are small or at the end of a range.
+pub fn cut_and_noise(random: &mut Random, mut bytes: Vec<u8>) -> Vec<u8> {
+    bytes.truncate(random.below(bytes.len()));
     for _ in 0..random.below(40) {
         let small = random.below(4) as u8;
-        sheet.push(if random.chance(50) {
+        bytes.push(if random.chance(50) {
             small
         } else {
             new_byte(random, small)
         });
     }
-    sheet
+    bytes
 }

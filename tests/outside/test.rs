@@ -1,6 +1,8 @@
 //! The test as a whole: holds the library's answers to the plain ones and counts them.
 
+use crate::book::{self, Fault, PAIR_BYTES};
 use crate::engine::{self, Outcome};
+use crate::listed;
 use crate::random::Random;
 use crate::reader;
 use crate::refusal::Refusal;
@@ -18,7 +20,9 @@ pub struct Test {
     spell: Tally,
     count: Tally,
     line: Tally,
+    book: Tally,
     shapes: Tally,
+    faults: Tally,
 }
 
 impl Test {
@@ -37,7 +41,9 @@ impl Test {
             spell: Tally::new("tpl_spell", &spell_answers, (1..=15).chain(20..=26)),
             count: Tally::new("tpl_count", &["counted"], 1..=15),
             line: Tally::new("tpl_line", &KINDS, (1..=15).chain(28..=29)),
+            book: Tally::new("tpl_book", &listed::BOOK_KINDS, 40..=42),
             shapes: Tally::new("counted sheets with", &shapes::names(shapes::ALL), 0..0),
+            faults: listed::faults(),
         }
     }
 
@@ -52,13 +58,14 @@ impl Test {
         self.calls().iter().map(|tally| tally.total()).sum()
     }
 
-    fn calls(&self) -> [&Tally; 5] {
+    fn calls(&self) -> [&Tally; 6] {
         [
             &self.read,
             &self.check,
             &self.spell,
             &self.count,
             &self.line,
+            &self.book,
         ]
     }
 
@@ -150,19 +157,40 @@ impl Test {
         self.line.count(answer);
     }
 
+    /// Compares the list of a book, which has this list or this fault, in a buffer of `room` bytes.
+    pub fn book(&mut self, bytes: &[u8], list: Result<&[u8], Fault>, room: usize) {
+        let mut buffer = engine::buffer_before(room);
+        let (status, answer) = match book::due(list, room) {
+            Ok(list) => {
+                buffer[..list.len()].copy_from_slice(list);
+                let pairs = (list.len() / PAIR_BYTES) as i64;
+                (pairs, Ok(listed::book_kind(pairs)))
+            }
+            Err(refusal) => (status(refusal), Err(refusal as u8)),
+        };
+        let case: &Case = &[("book", &Hex(bytes)), ("buffer of", &room)];
+        hold(engine::book(bytes, room), due(status, &buffer), case);
+        self.book.count(answer);
+        if let Err(fault) = list {
+            self.faults.count(Ok(fault.name()));
+        }
+    }
+
     /// Prints how often each answer came up, and fails if one came up too seldom.
     pub fn finish(&self) {
-        for tally in self.calls().into_iter().chain([&self.shapes]) {
+        let beside = [&self.shapes, &self.faults];
+        for tally in self.calls().into_iter().chain(beside) {
             tally.finish();
         }
         println!(
-            "outside: the library agrees on {} sheets, {} fillings, {} spellings, {} clause counts \
-             and {} lines",
+            "outside: the library agrees on {} sheets, {} fillings, {} spellings, {} clause counts, \
+             {} lines and {} lists",
             self.read.total(),
             self.check.total(),
             self.spell.total(),
             self.count.total(),
-            self.line.total()
+            self.line.total(),
+            self.book.total()
         );
     }
 }

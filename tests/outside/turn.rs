@@ -36,6 +36,7 @@ pub struct Answers {
     pub count: Outcome<u64>,
     pub line: i64,
     pub reply: Outcome<u8>,
+    pub book: Outcome<u8>,
 }
 
 impl Turn<'_> {
@@ -51,6 +52,7 @@ impl Turn<'_> {
             self.buffers(&answers);
             self.lines(&answers.count.lent);
         }
+        self.book(&answers.book);
         self.calls.reached.clear();
         reached
     }
@@ -66,6 +68,7 @@ impl Turn<'_> {
             count: self.calls.count(sheet),
             line: self.calls.line(sheet, input.line, input.room).status,
             reply: self.calls.reply(sheet, &input.reply, input.room),
+            book: self.calls.book(&input.book, input.room),
         }
     }
 
@@ -144,6 +147,7 @@ impl Turn<'_> {
             ("sheet", &Hex(&input.sheet)),
             ("filling", &Hex(&input.filling)),
             ("reply", &input.reply.escape_ascii()),
+            ("book", &Hex(&input.book)),
             ("pair", &input.pair),
             ("side", &input.side),
             ("line", &input.line),
