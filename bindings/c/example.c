@@ -1,4 +1,5 @@
-/* Reads a sheet from the file named on the command line, searches it, and prints the first clash, or that there is none.
+/* Reads a sheet from the file named on the command line, searches it, and prints the first clash, or that there is none. A file that starts with
+ * TPB is a book: of this it prints which templates clash. Without a file it asks a small book of its own.
  *
  * After `rt staticlib engine`, this line builds it from the repository's folder:
  *
@@ -10,11 +11,31 @@
  *     field 0=A
  *     pair 0=A
  *
- * For a sheet in which nothing clashes it prints `apart`, and for bytes that are no sheet `refused` and the refusal's number, which
+ * and `target/example` prints
+ *
+ *     templates 0 and 2 clash
+ *
+ * Where nothing clashes it prints `apart`, and for bytes that are neither a sheet nor a book `refused` and the refusal's number, which
  * include/lunthegyr.h explains. It ends with status 0 for an answer, 1 for a refusal and 2 for a file that cannot be read.
  */
 #include <stdio.h>
+#include <string.h>
 #include "lunthegyr.h"
+
+/* A small book. A shop sends three kinds of text: a hold-up, A and shop number, zone and staff code; a test of the line, 0 and a zone; and a
+ * weekly test, A and shop number and zone. Each template has fields of its own, so that both zones are not the same field.
+ */
+static const uint8_t shop[] = {
+    'T', 'P', 'B', 0, 1,                         /* the mark, and the version in two bytes */
+    4, '0', '1', '2', 'A',                       /* the letters, which are then used by their numbers */
+    3,                                           /* three templates */
+    3, 4, 2, 3,                                  /* fields of at most 4, 2 and 3 letters */
+    4, 3, TPL_FIELD_SYMBOL, TPL_FIELD_SYMBOL + 1, TPL_FIELD_SYMBOL + 2,
+    1, 2,                                        /* one field of at most 2 */
+    2, 0, TPL_FIELD_SYMBOL,
+    2, 4, 2,                                     /* fields of at most 4 and 2 */
+    3, 3, TPL_FIELD_SYMBOL, TPL_FIELD_SYMBOL + 1
+};
 
 /* Reads a file's bytes into a buffer of cap bytes, as many as fit. Returns 1, with their number in *n; or 0 where the file cannot be read. */
 static int read_file(const char *name, uint8_t *bytes, size_t cap, size_t *n) {
@@ -51,22 +72,35 @@ static void print_pairs(const uint8_t *sheet, size_t n, const uint8_t *filling, 
     }
 }
 
-int main(int argc, char **argv) {
-    uint8_t sheet[TPL_SHEET_MOST + 1]; /* one byte more than the largest sheet has, so that a longer file is refused */
-    size_t n;
+/* Every call returns minus the refusal's number where it refuses what it was given. Prints that, and returns the program's status for it. */
+static int refused(int64_t status) {
+    printf("refused %d\n", (int)-status);
+    return 1;
+}
+
+/* Prints which templates of a book clash. */
+static int ask_book(const uint8_t *book, size_t n) {
+    uint8_t list[TPL_LIST_MOST]; /* always long enough */
+    int64_t pairs = tpl_book(book, n, list, sizeof list);
+    if (pairs < 0) {
+        return refused(pairs);
+    }
+    if (pairs == 0) {
+        puts("apart");
+    }
+    for (int64_t p = 0; p < pairs; p++) {
+        printf("templates %d and %d clash\n", list[2 * p], list[2 * p + 1]);
+    }
+    return 0;
+}
+
+/* Prints the first clash of a sheet. */
+static int ask_sheet(const uint8_t *sheet, size_t n) {
     uint64_t counts[4]; /* letters, fields, pairs, rules */
     uint8_t filling[TPL_FILLING_MOST];
-    int64_t status;
-
-    if (argc != 2 || !read_file(argv[1], sheet, sizeof sheet, &n)) {
-        fprintf(stderr, "usage: example SHEET, where SHEET is a file that can be read\n");
-        return 2;
-    }
-    /* Every call returns minus the refusal's number where it refuses what it was given. */
-    status = tpl_read(sheet, n, counts);
+    int64_t status = tpl_read(sheet, n, counts);
     if (status < 0) {
-        printf("refused %d\n", (int)-status);
-        return 1;
+        return refused(status);
     }
     /* The sheet was accepted and the buffer is always long enough, so nothing is left to refuse. */
     if (tpl_search(sheet, n, filling, sizeof filling) == TPL_APART) {
@@ -77,4 +111,20 @@ int main(int argc, char **argv) {
     print_fields(sheet, filling, counts[1]);
     print_pairs(sheet, n, filling, counts);
     return 0;
+}
+
+int main(int argc, char **argv) {
+    uint8_t bytes[TPL_BOOK_MOST + 1]; /* one byte more than the largest book has, so that a longer file is refused */
+    size_t n;
+    if (argc == 1) {
+        return ask_book(shop, sizeof shop);
+    }
+    if (argc != 2 || !read_file(argv[1], bytes, sizeof bytes, &n)) {
+        fprintf(stderr, "usage: example [FILE], where FILE is a sheet or a book that can be read\n");
+        return 2;
+    }
+    if (n >= 3 && memcmp(bytes, "TPB", 3) == 0) {
+        return ask_book(bytes, n);
+    }
+    return ask_sheet(bytes, n);
 }

@@ -1,6 +1,7 @@
-/* include/lunthegyr.h against the static library: each call on document 01's sheet P, with an answer and with refusals, which change
- * nothing that was lent; the header's numbers against document 01's; and buffers of the named sizes on the largest sheets of
- * tests/clauses.d and tests/search.d. To be run in the repository's folder. */
+/* include/lunthegyr.h against the static library: each call that takes a sheet on document 01's sheet P, and the one that takes a book on a small
+ * book, with an answer and with refusals, which change nothing that was lent; the header's numbers against those of documents 01 and 02; and
+ * buffers of the named sizes on the largest sheets of tests/clauses.d and tests/search.d, and on a largest book. To be run in the repository's
+ * folder. */
 #include <stdio.h>
 #include <string.h>
 #include "lunthegyr.h"
@@ -20,7 +21,7 @@ static void expect(int holds, const char *what) {
     }
 }
 
-/* Document 01's numbers. */
+/* The numbers of document 01 and, of books, document 02. */
 static const struct { int constant, number; } numbers[] = {
     { TPL_UNDER_NINE_BYTES, 1 }, { TPL_MARK, 2 }, { TPL_VERSION, 3 }, { TPL_LETTER_COUNT, 4 }, { TPL_FIELD_COUNT, 5 },
     { TPL_PAIR_COUNT, 6 }, { TPL_RULE_COUNT, 7 }, { TPL_BYTE_MISSING, 8 }, { TPL_BYTES_LEFT_OVER, 9 }, { TPL_LETTER, 10 },
@@ -31,12 +32,18 @@ static const struct { int constant, number; } numbers[] = {
     { TPL_REPLY_SIZE, 30 }, { TPL_LINE_END, 31 }, { TPL_UNKNOWN_LINE, 32 }, { TPL_STATUS_LINE, 33 }, { TPL_ZERO, 34 },
     { TPL_VARIABLE_NUMBER, 35 }, { TPL_VARIABLE_TWICE, 36 }, { TPL_PLACE_VALUE, 37 }, { TPL_LETTER_AFTER_BLANK, 38 },
     { TPL_NO_CLASH, 39 },
+    { TPL_BOOK_MARK, 40 }, { TPL_BOOK, 41 }, { TPL_BUFFER_BELOW_LIST, 42 },
     { TPL_LETTERS_MOST, 8 }, { TPL_FIELDS_MOST, 6 }, { TPL_PAIRS_MOST, 4 }, { TPL_RULES_MOST, 4 },
     { TPL_SYMBOLS_MOST, 12 }, { TPL_FIELD_SYMBOL, 128 },
     { TPL_FIELD_PLACES, 8 }, { TPL_FIELD_BYTES, 9 }, { TPL_FILLING_MOST, 9 * 6 }, { TPL_PAST_LENGTH, 255 },
     { TPL_LEFT, 0 }, { TPL_RIGHT, 1 }, { TPL_TEXT_MOST, 24 }, { TPL_LINE_MOST, 80 }, { TPL_REPLY_MOST, 65536 },
     /* The header, and then the most letters, limits, pairs and rules. */
     { TPL_SHEET_MOST, 9 + 8 + 6 + 4 * (2 + 12 + 12) + 4 * (6 + 2) },
+    { TPL_TEMPLATES_MOST, 16 }, { TPL_TEMPLATE_FIELDS_MOST, 3 },
+    /* Mark, version, the most letters after their count, and the most templates after theirs, each of the most fields and symbols. */
+    { TPL_BOOK_MOST, 3 + 2 + 1 + 8 + 1 + 16 * (1 + 3 + 1 + 12) },
+    /* Two bytes for any two of 16. */
+    { TPL_LIST_MOST, 2 * (16 * 15 / 2) },
     /* These are the engine's own. */
     { TPL_CLASH, 1 }, { TPL_DOES_NOT_CLASH, 0 }, { TPL_APART, 0 }
 };
@@ -44,7 +51,7 @@ static const struct { int constant, number; } numbers[] = {
 static void naming(void) {
     for (size_t i = 0; i < sizeof numbers / sizeof numbers[0]; i++) {
         if (numbers[i].constant != numbers[i].number) {
-            printf("C header: FAILED: a constant is %d where document 01 has %d\n", numbers[i].constant, numbers[i].number);
+            printf("C header: FAILED: a constant is %d where the documents have %d\n", numbers[i].constant, numbers[i].number);
             all_passed = 0;
         }
     }
@@ -187,6 +194,71 @@ static void replying(void) {
     expect(memcmp(filling, is_a, sizeof is_a) == 0, "the filling is again X=A");
 }
 
+/* The first 21 bytes are a book: A with a field of limit 1; B; and a field of limit 2, which can spell both. */
+#define BOOK_BYTES 21
+static const uint8_t book[BOOK_BYTES + 1] = { 'T', 'P', 'B', 0, 1, 2, 'A', 'B', 3, 1, 1, 2, 0, 128, 0, 1, 1, 1, 2, 1, 128, 0 };
+
+/* Books that are refused, each a change of one byte of that one. */
+static const struct { enum tpl_refusal refusal; size_t offset; uint8_t byte; } damaged[9] = {
+    { TPL_BOOK_MARK, 2, 'L' }, { TPL_BOOK_MARK, 3, 1 }, { TPL_BOOK_MARK, 4, 2 },
+    { TPL_BOOK, 5, TPL_LETTERS_MOST + 1 }, { TPL_BOOK, 7, 'A' }, { TPL_BOOK, 8, TPL_TEMPLATES_MOST + 1 },
+    { TPL_BOOK, 9, TPL_TEMPLATE_FIELDS_MOST + 1 }, { TPL_BOOK, 10, TPL_FIELD_PLACES + 1 }, { TPL_BOOK, 13, TPL_FIELD_SYMBOL + 1 }
+};
+
+static void listing(void) {
+    static const uint8_t due[4] = { 0, 2, 1, 2 };
+    uint8_t list[TPL_LIST_MOST], before[TPL_LIST_MOST], changed[BOOK_BYTES];
+    memset(before, '.', sizeof before);
+    memcpy(list, before, sizeof list);
+    for (size_t i = 0; i < 9; i++) {
+        memcpy(changed, book, BOOK_BYTES);
+        changed[damaged[i].offset] = damaged[i].byte;
+        expect(tpl_book(changed, BOOK_BYTES, list, sizeof list) == -(int64_t)damaged[i].refusal, "a faulty book is refused with its number");
+    }
+    expect(tpl_book(book, 4, list, sizeof list) == -TPL_BOOK_MARK, "four bytes are refused with 40");
+    expect(tpl_book(book, 5, list, sizeof list) == -TPL_BOOK, "five bytes are refused with 41");
+    expect(tpl_book(sheet, 15, list, sizeof list) == -TPL_BOOK_MARK, "P is no book");
+    expect(tpl_book(book, BOOK_BYTES - 1, list, 0) == -TPL_BOOK, "41 comes before 42");
+    expect(tpl_book(book, BOOK_BYTES + 1, list, sizeof list) == -TPL_BOOK, "a byte left over is refused with 41");
+    expect(tpl_book(book, BOOK_BYTES, list, 3) == -TPL_BUFFER_BELOW_LIST, "three bytes for two pairs are refused with 42");
+    expect(memcmp(list, before, sizeof list) == 0, "a refusal leaves the list's buffer");
+    expect(tpl_book(book, BOOK_BYTES, list, 4) == 2, "four bytes are enough for two pairs");
+    expect(memcmp(list, due, sizeof due) == 0, "templates 0 and 2 clash, and 1 and 2");
+    expect(memcmp(list + 4, before, sizeof list - 4) == 0, "the bytes after a list stay");
+    memcpy(list, before, sizeof list);
+    expect(tpl_book(book, BOOK_BYTES, list, sizeof list) == 2, "a longer buffer changes nothing");
+    expect(memcmp(list, due, sizeof due) == 0 && memcmp(list + 4, before, sizeof list - 4) == 0, "the list is again the same");
+}
+
+/* A book of TPL_BOOK_MOST bytes whose templates are all alike has a list of TPL_LIST_MOST bytes. */
+static void largest_book(void) {
+    uint8_t large[TPL_BOOK_MOST + 1], list[TPL_LIST_MOST];
+    size_t n = 0, at = 0;
+    memset(large, 0, sizeof large);
+    memcpy(large, "TPB\0\1", 5);
+    large[5] = TPL_LETTERS_MOST;
+    memcpy(large + 6, "ABCDEFGH", 8);
+    large[14] = TPL_TEMPLATES_MOST;
+    for (n = 15; n < TPL_BOOK_MOST; n += 5 + TPL_SYMBOLS_MOST) {
+        /* The three fields, each once, and letter 0. */
+        large[n] = TPL_TEMPLATE_FIELDS_MOST;
+        large[n + 1] = large[n + 2] = large[n + 3] = 5;
+        large[n + 4] = TPL_SYMBOLS_MOST;
+        large[n + 5] = TPL_FIELD_SYMBOL;
+        large[n + 6] = TPL_FIELD_SYMBOL + 1;
+        large[n + 7] = TPL_FIELD_SYMBOL + 2;
+    }
+    expect(n == TPL_BOOK_MOST, "a largest book has TPL_BOOK_MOST bytes");
+    expect(tpl_book(large, TPL_BOOK_MOST + 1, list, sizeof list) == -TPL_BOOK, "a byte more is refused with 41");
+    expect(tpl_book(large, TPL_BOOK_MOST, list, TPL_LIST_MOST - 1) == -TPL_BUFFER_BELOW_LIST, "one byte less for a list is refused with 42");
+    expect(tpl_book(large, TPL_BOOK_MOST, list, sizeof list) == TPL_LIST_MOST / 2, "all templates of a largest book clash");
+    for (uint8_t i = 0; i < TPL_TEMPLATES_MOST; i++) {
+        for (uint8_t j = i + 1; j < TPL_TEMPLATES_MOST; j++, at += 2) {
+            expect(list[at] == i && list[at + 1] == j, "each two templates are listed once, by the first and then by the second");
+        }
+    }
+}
+
 /* Reads a file of hexadecimal digits, with comments on lines that start with #, into a buffer for a sheet. Returns the number of bytes, or 0
  * where the file cannot be read or has too many. */
 static size_t read_digits(const char *name, uint8_t large[TPL_SHEET_MOST]) {
@@ -298,6 +370,8 @@ int main(void) {
     counting();
     writing();
     replying();
+    listing();
+    largest_book();
     largest();
     fits("tests/clauses.d/largest_sheet.sheet", TPL_APART, 0);
     fits("tests/clauses.d/most_clauses.sheet", TPL_APART, 0);
@@ -307,6 +381,7 @@ int main(void) {
     if (!all_passed) {
         return 1;
     }
-    puts("C header: the seven calls answer as they must on P, its constants are document 01's numbers, and buffers of its sizes are enough");
+    puts("C header: the eight calls answer as they must on P and on a small book, its constants are the documents' numbers, and buffers of its "
+         "sizes are enough");
     return 0;
 }
