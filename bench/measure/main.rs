@@ -2,8 +2,8 @@
 //! they print or hand over, prints tables in Markdown, and writes plots of how times grow.
 //!
 //! Its words: `--quick` to compare more than to measure, `--before` where there is an earlier build of the
-//! library too, then sheets' files (`NAME.tpl`) that are searched besides the hard ones, then the names of
-//! the solvers that are installed. It runs in the repository's folder, and writes to target/bench.
+//! library too, then sheets' files (`NAME.tpl`) that are searched besides the hard ones, then books' files
+//! (`NAME.tpb`) that are listed besides those of shops, then the names of the solvers that are installed. It runs in the repository's folder, and writes to target/bench.
 
 #[path = "../../tests/outside/assignment.rs"]
 #[allow(dead_code)]
@@ -11,6 +11,9 @@ mod assignment;
 #[path = "../../tests/outside/book.rs"]
 #[allow(dead_code)]
 mod book;
+#[path = "../../tests/outside/books.rs"]
+#[allow(dead_code)]
+mod books;
 #[path = "../../tests/outside/engine.rs"]
 #[allow(dead_code)]
 mod engine;
@@ -26,6 +29,9 @@ mod hard;
 #[path = "../../tests/outside/lent.rs"]
 #[allow(dead_code)]
 mod lent;
+#[path = "../../tests/outside/planted.rs"]
+#[allow(dead_code)]
+mod planted;
 #[path = "../../tests/outside/printed.rs"]
 #[allow(dead_code)]
 mod printed;
@@ -65,10 +71,12 @@ mod clauses;
 mod families;
 mod growth;
 mod lines;
+mod lists;
 mod plot;
 mod race;
 mod replies;
 mod search;
+mod shops;
 mod strings;
 mod table;
 mod timing;
@@ -84,6 +92,8 @@ pub struct Setting {
     pub before: bool,
     /// Files of sheets besides the hard ones.
     pub sheets: Vec<String>,
+    /// Files of books besides those of shops.
+    pub books: Vec<String>,
     /// Solvers that are installed.
     pub solvers: Vec<String>,
 }
@@ -107,17 +117,21 @@ fn main() {
         words.partition(|word| word.starts_with("--"));
     let given = |option: &str| options.iter().any(|word| word == option);
     let words = words.into_iter();
-    let (sheets, solvers) = words.partition(|word| word.ends_with(".tpl"));
+    let (sheets, words): (_, Vec<String>) = words.partition(|word| word.ends_with(".tpl"));
+    let words = words.into_iter();
+    let (books, solvers) = words.partition(|word| word.ends_with(".tpb"));
     let setting = Setting {
         effort: if given("--quick") { QUICK } else { THOROUGH },
         before: given("--before"),
         sheets,
+        books,
         solvers,
     };
     println!("{}", clauses::table_of(&setting));
     println!("{}", lines::table_of(&setting));
     println!("{}", replies::table_of(&setting));
     println!("{}", search::tables(&setting));
+    println!("{}", lists::tables(&setting));
     println!("{}", growth::plots(&setting));
 }
 

@@ -55,12 +55,19 @@ pub fn tables(setting: &Setting) -> String {
 }
 
 fn read(file: &str) -> Asked {
-    let name = file.rsplit('/').next().unwrap_or(file);
+    let (name, sheet) = named(file, ".tpl");
     Asked {
-        name: name.strip_suffix(".tpl").unwrap_or(name).to_string(),
-        sheet: std::fs::read(file).unwrap_or_else(|error| fail(&format!("{file}: {error}"))),
+        name,
+        sheet,
         clash: None,
     }
+}
+
+/// A file's name without its folder and this ending, and its bytes.
+pub fn named(file: &str, ending: &str) -> (String, Vec<u8>) {
+    let name = file.rsplit('/').next().unwrap_or(file);
+    let bytes = std::fs::read(file).unwrap_or_else(|error| fail(&format!("{file}: {error}")));
+    (name.strip_suffix(ending).unwrap_or(name).to_string(), bytes)
 }
 
 fn one_table(setting: &Setting, all: &[Asked]) -> String {
@@ -121,8 +128,7 @@ fn told(timing: &Option<Timing>) -> String {
 /// Asks the search program and the solvers of `SOLVERS` that are there. Their answers must agree, and the
 /// search must print what the plain one says.
 pub fn ask(effort: Effort, sheet: &[u8], there: &[String], known: Option<bool>) -> Answered {
-    save("sheet.tpl", sheet);
-    save("sheet.cnf", &clauses());
+    save("sheet.cnf", &clauses(sheet));
     save(
         "sheet.smt2",
         strings::question(&reader::accepted(sheet)).as_bytes(),
@@ -165,8 +171,9 @@ pub fn ask(effort: Effort, sheet: &[u8], there: &[String], known: Option<bool>) 
     }
 }
 
-/// The clause file of the sheet that was saved.
-fn clauses() -> Vec<u8> {
+/// The clause file of a sheet, which is saved.
+pub fn clauses(sheet: &[u8]) -> Vec<u8> {
+    save("sheet.tpl", sheet);
     let sheet = std::fs::File::open("target/bench/sheet.tpl").expect("it was saved");
     let output = Command::new("target/bin/clauses").stdin(sheet).output();
     output
@@ -184,7 +191,7 @@ fn contender(name: &str, effort: Effort) -> Contender {
 }
 
 /// Whether it says that the sheet clashes; none if it does not know.
-fn answer(name: &str, ended: &Ended) -> Option<bool> {
+pub fn answer(name: &str, ended: &Ended) -> Option<bool> {
     let printed = String::from_utf8_lossy(&ended.printed);
     match (name, ended.status, printed.lines().next()) {
         ("search", _, Some("clash")) => Some(true),

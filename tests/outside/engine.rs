@@ -47,7 +47,7 @@ extern "C" {
     ) -> i64;
 
     /// Answers the number of pairs and the list, or minus the refusal's number and no list.
-    fn tpl_book(book: *const u8, n: usize, list: *mut u8, cap: usize) -> i64;
+    pub fn tpl_book(book: *const u8, n: usize, list: *mut u8, cap: usize) -> i64;
 }
 
 /// What one call answered and left behind.
