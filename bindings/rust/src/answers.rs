@@ -42,6 +42,15 @@ pub enum Searched {
     Apart,
 }
 
+/// Two templates of a book that clash, by their numbers; `first` is below `second`.
+#[derive(Clone, Copy, Debug, PartialEq, Eq, Hash)]
+pub struct Clashing {
+    /// The template on the left of the question.
+    pub first: usize,
+    /// The template on the right of the question.
+    pub second: usize,
+}
+
 /// A side of a pair of templates.
 #[derive(Clone, Copy, Debug, PartialEq, Eq, Hash)]
 pub enum Side {

@@ -1,8 +1,8 @@
-//! The engine's seven calls, over any bytes and lent buffers. Each answers, or gives the first refusal in document 01's order, with
-//! all that was lent to it as it was. They allocate nothing.
+//! The engine's eight calls, over any bytes and lent buffers. Each answers, or gives the first refusal in the order of documents 01 and 02,
+//! with all that was lent to it as it was. They allocate nothing.
 
 use crate::engine;
-use crate::status::Call;
+use crate::status::{Call, OF_BOOK, OF_SHEET};
 use crate::Refusal;
 
 pub use crate::answers::{Checked, ClauseCounts, Counts, Searched};
@@ -22,6 +22,7 @@ pub fn read(sheet: &[u8]) -> Result<Counts, Refusal> {
     const CALL: Call = Call {
         name: "tpl_read",
         greatest: 0,
+        reads: OF_SHEET,
         own: &[],
     };
     let mut counts = [0; 4];
@@ -48,6 +49,7 @@ pub fn check(sheet: &[u8], filling: &[u8]) -> Result<Checked, Refusal> {
     const CALL: Call = Call {
         name: "tpl_check",
         greatest: 1,
+        reads: OF_SHEET,
         own: &[20, 21, 22, 23],
     };
     match CALL.outcome(engine::check(sheet, filling))? {
@@ -81,6 +83,7 @@ pub fn spell(
     let call = Call {
         name: "tpl_spell",
         greatest: text.len(),
+        reads: OF_SHEET,
         own: &[20, 21, 22, 23, 24, 25, 26],
     };
     call.outcome(engine::spell(sheet, pair, side, filling, text))
@@ -103,6 +106,7 @@ pub fn search(sheet: &[u8], filling: &mut [u8]) -> Result<Searched, Refusal> {
     const CALL: Call = Call {
         name: "tpl_search",
         greatest: 1,
+        reads: OF_SHEET,
         own: &[27],
     };
     match CALL.outcome(engine::search(sheet, filling))? {
@@ -122,6 +126,7 @@ pub fn count(sheet: &[u8]) -> Result<ClauseCounts, Refusal> {
     const CALL: Call = Call {
         name: "tpl_count",
         greatest: 0,
+        reads: OF_SHEET,
         own: &[],
     };
     let mut counts = [0; 3];
@@ -150,6 +155,7 @@ pub fn line(sheet: &[u8], line: u64, text: &mut [u8]) -> Result<usize, Refusal> 
     let call = Call {
         name: "tpl_line",
         greatest: text.len(),
+        reads: OF_SHEET,
         own: &[28, 29],
     };
     call.outcome(engine::line(sheet, line, text))
@@ -174,16 +180,41 @@ pub fn reply(sheet: &[u8], reply: &[u8], filling: &mut [u8]) -> Result<(), Refus
     const CALL: Call = Call {
         name: "tpl_reply",
         greatest: 0,
+        reads: OF_SHEET,
         own: &[27, 30, 31, 32, 33, 34, 35, 36, 37, 38, 39],
     };
     CALL.outcome(engine::reply(sheet, reply, filling))?;
     Ok(())
 }
 
+/// Lists which templates of a book of any bytes clash. Answers how many pairs of templates do, each as two bytes in the first bytes of `list`,
+/// in the order that [`Book::clashes`](crate::Book::clashes) tells, and the later ones as they were; or one of the refusals 40 to 42, with
+/// all bytes as they were. A buffer of [`LIST_MOST`](crate::LIST_MOST) is always long enough.
+///
+/// ```
+/// use lunthegyr::{calls, LIST_MOST};
+///
+/// // One letter, A; three templates: a field of at most one letter, A, and AA.
+/// let book = b"TPB\x00\x01\x01A\x03\x01\x01\x01\x80\x00\x01\x00\x00\x02\x00\x00";
+/// let mut list = [0; LIST_MOST];
+/// let pairs = calls::book(book, &mut list)?;
+/// assert_eq!(list[..2 * pairs], [0, 1]);
+/// # Ok::<(), lunthegyr::Refusal>(())
+/// ```
+pub fn book(book: &[u8], list: &mut [u8]) -> Result<usize, Refusal> {
+    let call = Call {
+        name: "tpl_book",
+        greatest: list.len() / 2,
+        reads: OF_BOOK,
+        own: &[42],
+    };
+    call.outcome(engine::book(book, list))
+}
+
 #[cfg(test)]
 mod tests {
     use super::*;
-    use crate::samples::{sheet_of, P, P_FILE};
+    use crate::samples::{sheet_of, BOOK, P, P_FILE};
 
     const IS_A: [u8; 9] = [1, 0, 255, 255, 255, 255, 255, 255, 255];
     const GOOD: &[u8] = b"s SATISFIABLE\nv 1 0\n";
@@ -203,8 +234,20 @@ mod tests {
     }
 
     #[test]
+    fn a_book_is_read_before_its_buffer_is_looked_at() {
+        let mut marked = BOOK;
+        marked[2] = b'L';
+        assert_eq!(book(&marked, &mut []), Err(Refusal::BookMark));
+        assert_eq!(book(&BOOK[..4], &mut []), Err(Refusal::BookMark));
+        assert_eq!(book(&BOOK[..5], &mut []), Err(Refusal::Book));
+        assert_eq!(book(&BOOK[..BOOK.len() - 1], &mut []), Err(Refusal::Book));
+        assert_eq!(book(&BOOK, &mut []), Err(Refusal::BufferBelowList));
+    }
+
+    #[test]
     fn a_buffer_that_is_too_short_stays_as_it_was() {
         let mut buffer = [b'.'; 8];
+        assert_eq!(book(&BOOK, &mut buffer[..3]), Err(Refusal::BufferBelowList));
         assert_eq!(
             spell(&P, 0, 0, &IS_A, &mut buffer[..0]),
             Err(Refusal::BufferTooShort)
@@ -232,6 +275,9 @@ mod tests {
         let mut read = [b'.'; 11];
         assert_eq!(reply(&P, GOOD, &mut read), Ok(()));
         assert_eq!(read, found);
+        let mut list = [b'.'; 6];
+        assert_eq!(book(&BOOK, &mut list), Ok(2));
+        assert_eq!(list, *b"\x00\x01\x01\x03..");
     }
 
     #[test]
@@ -242,6 +288,9 @@ mod tests {
         assert_eq!(spell(&P, 0, 1, &IS_A, &mut exact[..1]), Ok(1));
         let mut line_0 = [0; 10];
         assert_eq!(line(&P, 0, &mut line_0), Ok(10));
+        assert_eq!(book(&BOOK, &mut [0; 4]), Ok(2));
+        // A book of one template has no pairs.
+        assert_eq!(book(b"TPB\x00\x01\x01A\x01\x00\x00", &mut []), Ok(0));
     }
 
     #[test]

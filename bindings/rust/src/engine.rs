@@ -27,6 +27,7 @@ extern "C" {
         filling: *mut u8,
         cap: usize,
     ) -> i64;
+    fn tpl_book(book: *const u8, n: usize, list: *mut u8, cap: usize) -> i64;
 }
 
 pub fn read(sheet: &[u8], counts: &mut [u64; 4]) -> i64 {
@@ -97,4 +98,9 @@ pub fn reply(sheet: &[u8], reply: &[u8], filling: &mut [u8]) -> i64 {
             filling.len(),
         )
     }
+}
+
+pub fn book(book: &[u8], list: &mut [u8]) -> i64 {
+    // SAFETY: the pointers lead to `book.len()` and `list.len()` bytes.
+    unsafe { tpl_book(book.as_ptr(), book.len(), list.as_mut_ptr(), list.len()) }
 }

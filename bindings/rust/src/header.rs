@@ -68,6 +68,10 @@ fn the_sizes_and_other_constants_are_the_headers() {
         ("TEXT_MOST", sizes::TEXT_MOST as u64),
         ("LINE_MOST", sizes::LINE_MOST as u64),
         ("REPLY_MOST", sizes::REPLY_MOST as u64),
+        ("BOOK_MOST", sizes::BOOK_MOST as u64),
+        ("TEMPLATES_MOST", sizes::TEMPLATES_MOST as u64),
+        ("TEMPLATE_FIELDS_MOST", sizes::TEMPLATE_FIELDS_MOST as u64),
+        ("LIST_MOST", sizes::LIST_MOST as u64),
         ("LEFT", Side::Left.number()),
         ("RIGHT", Side::Right.number()),
         // As `calls::check` and `calls::search` take them.

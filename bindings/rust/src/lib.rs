@@ -1,9 +1,25 @@
-//! Can two templates of a sheet ever spell the same text? This is a safe wrapper of `libengine.a`, a proved engine for bounded word
+//! Can two templates ever spell the same text? This is a safe wrapper of `libengine.a`, a proved engine for bounded word
 //! equations with linear length constraints.
 //!
-//! A sheet lists templates in pairs. A template is a row of letters and fields, and a filling gives each field a text. A filling clashes
-//! when in every pair both templates spell the same text, and every rule of the sheet holds. The repository's `docs/01-scope.md` ("document 01")
-//! defines the bytes of a sheet and of a filling, and what is refused.
+//! A template is a row of letters and fields, and a filling gives each field a text. A book has all templates of a shop, and asks of every
+//! two of them whether they clash: whether some filling makes both spell the same text.
+//!
+//! ```
+//! use lunthegyr::Book;
+//!
+//! // One letter, A; three templates: a field of at most one letter, A, and AA.
+//! let book = Book::read(*b"TPB\x00\x01\x01A\x03\x01\x01\x01\x80\x00\x01\x00\x00\x02\x00\x00")?;
+//! for pair in book.clashes() {
+//!     let sheet = book.question(pair.first, pair.second);
+//!     let filling = sheet.search().expect("the field can be A");
+//!     assert_eq!((pair.first, pair.second, sheet.text(0, &filling)?), (0, 1, b"A".to_vec()));
+//! }
+//! # Ok::<(), lunthegyr::Refusal>(())
+//! ```
+//!
+//! A sheet lists templates in pairs, and has rules. A filling clashes when in every pair both templates spell the same text, and every rule of
+//! the sheet holds. The repository's `docs/01-scope.md` ("document 01") defines the bytes of a sheet and of a filling, and what is refused;
+//! `docs/02-change-requests.md` ("document 02") those of a book.
 //!
 //! ```
 //! use lunthegyr::{Sheet, Side};
@@ -16,13 +32,14 @@
 //! # Ok::<(), lunthegyr::Refusal>(())
 //! ```
 //!
-//! [`Sheet`] and [`Filling`] are for most uses. The module [`calls`] has the engine's seven calls over any bytes and lent buffers; it
+//! [`Book`], [`Sheet`] and [`Filling`] are for most uses. The module [`calls`] has the engine's eight calls over any bytes and lent buffers; it
 //! allocates nothing.
 
 #![deny(missing_docs)]
 #![deny(unsafe_code)]
 
 mod answers;
+mod book;
 pub mod calls;
 #[allow(unsafe_code)]
 mod engine;
@@ -37,7 +54,8 @@ mod header;
 #[cfg(test)]
 mod samples;
 
-pub use answers::{Checked, ClauseCounts, Counts, Searched, Side};
+pub use answers::{Checked, Clashing, ClauseCounts, Counts, Searched, Side};
+pub use book::{Book, Template};
 pub use filling::Filling;
 pub use refusal::Refusal;
 pub use sheet::Sheet;

@@ -1,8 +1,8 @@
-//! The refusals, with document 01's numbers and with words for a person who writes sheets.
+//! The refusals, with the numbers of document 01 and, of books, of document 02, and with words for a person who writes sheets and books.
 
 use std::fmt;
 
-/// Why a call refused what it was given. The first that applies is given, in document 01's order.
+/// Why a call refused what it was given. The first that applies is given, in the order of documents 01 and 02.
 #[derive(Clone, Copy, Debug, PartialEq, Eq, Hash)]
 pub enum Refusal {
     /// 1: the sheet has fewer than 9 bytes.
@@ -75,11 +75,17 @@ pub enum Refusal {
     LetterAfterBlank = 38,
     /// 39: the reply's filling does not clash.
     NoClash = 39,
+    /// 40: the book has fewer than 5 bytes, or another mark or version.
+    BookMark = 40,
+    /// 41: something else is wrong with the book.
+    Book = 41,
+    /// 42: the buffer is shorter than the list.
+    BufferBelowList = 42,
 }
 
 impl Refusal {
     /// All refusals, by rising number.
-    pub const ALL: [Refusal; 35] = [
+    pub const ALL: [Refusal; 38] = [
         Refusal::UnderNineBytes,
         Refusal::Mark,
         Refusal::Version,
@@ -115,9 +121,12 @@ impl Refusal {
         Refusal::PlaceValue,
         Refusal::LetterAfterBlank,
         Refusal::NoClash,
+        Refusal::BookMark,
+        Refusal::Book,
+        Refusal::BufferBelowList,
     ];
 
-    /// Document 01's number.
+    /// Its number in document 01 or 02.
     pub fn number(self) -> u8 {
         self as u8
     }
@@ -136,7 +145,7 @@ impl Refusal {
             .find(|refusal| refusal.number() == number)
     }
 
-    /// What is wrong, in words, with document 01's ranges.
+    /// What is wrong, in words, with the ranges of documents 01 and 02.
     pub fn words(self) -> &'static str {
         match self {
             Refusal::UnderNineBytes => "the sheet has fewer than 9 bytes",
@@ -178,6 +187,13 @@ impl Refusal {
             Refusal::PlaceValue => "the reply does not make just one value true at some place of a field",
             Refusal::LetterAfterBlank => "the reply puts a letter after a blank in a field",
             Refusal::NoClash => "the filling that the reply gives does not clash",
+            Refusal::BookMark => "the book does not start with the three bytes TPB and the version 1 in two bytes",
+            Refusal::Book => {
+                "a count, letter, limit, symbol or width of the book breaks its range, or bytes are missing or left over"
+            }
+            Refusal::BufferBelowList => {
+                "the buffer is shorter than 2 bytes for each pair of templates that clash; 240 bytes are always enough"
+            }
         }
     }
 }
@@ -196,18 +212,18 @@ mod tests {
     use super::*;
 
     #[test]
-    fn the_numbers_are_1_to_15_and_20_to_39() {
+    fn the_numbers_are_1_to_15_and_20_to_42() {
         let numbers: Vec<u8> = Refusal::ALL
             .iter()
             .map(|refusal| refusal.number())
             .collect();
-        assert_eq!(numbers, (1..=15).chain(20..=39).collect::<Vec<u8>>());
+        assert_eq!(numbers, (1..=15).chain(20..=42).collect::<Vec<u8>>());
     }
 
     #[test]
     fn a_number_leads_back_to_its_refusal() {
         for number in 0..=255 {
-            let there = (1..=15).contains(&number) || (20..=39).contains(&number);
+            let there = (1..=15).contains(&number) || (20..=42).contains(&number);
             let found = Refusal::from_number(number);
             assert_eq!(found.map(Refusal::number), Some(number).filter(|_| there));
         }

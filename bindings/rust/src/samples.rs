@@ -1,4 +1,4 @@
-//! Sheets that the tests use.
+//! Sheets and a book that the tests use.
 
 use crate::Sheet;
 
@@ -8,6 +8,14 @@ pub const P: [u8; 15] = *b"TPL\x00\x01\x01\x01\x01\x00A\x01\x01\x01\x80\x00";
 /// P's clause file.
 pub const P_FILE: &[u8] =
     b"p cnf 6 8\n1 2 0\n-1 -2 0\n3 0\n-3 -2 5 0\n-3 2 6 0\n-4 -2 6 0\n-4 2 0\n-5 0\n";
+
+/// A book with the letters A and B and four templates, of which 0 and 1 clash, and 1 and 3: A and its field 0; its fields 1 and 0, and A; B;
+/// its fields 0 and 2, and ABA.
+pub const BOOK: [u8; 34] = *b"TPB\x00\x01\x02AB\x04\
+\x01\x01\x02\x00\x80\
+\x02\x02\x01\x03\x81\x80\x00\
+\x00\x01\x01\
+\x03\x01\x01\x02\x05\x80\x82\x00\x01\x00";
 
 /// The sheet of a file of hexadecimal digits, with comments on lines that start with #.
 pub fn sheet_of(file: &str) -> Sheet {

@@ -41,3 +41,15 @@ pub const LINE_MOST: usize = 80;
 
 /// A longer reply is refused.
 pub const REPLY_MOST: usize = 65536;
+
+/// No accepted book has more bytes.
+pub const BOOK_MOST: usize = 287;
+
+/// A book has at most this many templates, and at least one.
+pub const TEMPLATES_MOST: usize = 16;
+
+/// A template of a book has at most this many fields.
+pub const TEMPLATE_FIELDS_MOST: usize = 3;
+
+/// The bytes of the longest list of clashing pairs: a buffer that is always long enough for one.
+pub const LIST_MOST: usize = 240;

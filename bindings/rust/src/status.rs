@@ -2,16 +2,19 @@
 //! means that the program was linked with another library.
 
 use crate::Refusal;
+use std::ops::RangeInclusive;
 
-/// A call by its name in the library, its greatest answer, and the numbers of the refusals that it gives beside those of reading a sheet.
+/// A call by its name in the library, its greatest answer, and the numbers of the refusals that it gives: of what it reads, and its own.
 pub struct Call {
     pub name: &'static str,
     pub greatest: usize,
+    pub reads: RangeInclusive<u8>,
     pub own: &'static [u8],
 }
 
-/// The numbers of the refusals of a sheet, which every call gives.
-const READING: std::ops::RangeInclusive<u8> = 1..=15;
+/// The numbers of the refusals of a sheet, and of a book.
+pub const OF_SHEET: RangeInclusive<u8> = 1..=15;
+pub const OF_BOOK: RangeInclusive<u8> = 40..=41;
 
 impl Call {
     /// The answer, or the refusal.
@@ -26,7 +29,7 @@ impl Call {
     /// The refusal of a status below 0.
     fn refusal(&self, status: i64) -> Refusal {
         let number = u8::try_from(status.unsigned_abs()).unwrap_or(0);
-        let given = READING.contains(&number) || self.own.contains(&number);
+        let given = self.reads.contains(&number) || self.own.contains(&number);
         match Refusal::from_number(number) {
             Some(refusal) if given => refusal,
             _ => self.unknown(status),
@@ -48,6 +51,7 @@ mod tests {
     const SAMPLE: Call = Call {
         name: "tpl_sample",
         greatest: 3,
+        reads: OF_SHEET,
         own: &[27, 30],
     };
 
@@ -59,11 +63,18 @@ mod tests {
     }
 
     #[test]
-    fn a_status_below_0_is_a_refusal_of_the_call_or_of_reading() {
+    fn a_status_below_0_is_a_refusal_of_the_call_or_of_what_it_reads() {
         assert_eq!(SAMPLE.outcome(-1), Err(Refusal::UnderNineBytes));
         assert_eq!(SAMPLE.outcome(-15), Err(Refusal::Coefficient));
         assert_eq!(SAMPLE.outcome(-27), Err(Refusal::BufferBelowFilling));
         assert_eq!(SAMPLE.outcome(-30), Err(Refusal::ReplySize));
+        let of_book = Call {
+            reads: OF_BOOK,
+            ..SAMPLE
+        };
+        assert_eq!(of_book.outcome(-40), Err(Refusal::BookMark));
+        assert_eq!(of_book.outcome(-41), Err(Refusal::Book));
+        assert_eq!(of_book.outcome(-27), Err(Refusal::BufferBelowFilling));
     }
 
     #[test]
