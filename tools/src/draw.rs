@@ -22,18 +22,20 @@ struct Columns {
     starts: Vec<usize>,
 }
 
-/// The drawing's lines. Both templates spell `text`.
-pub fn drawing(left: &[Piece], text: &[u8], right: &[Piece]) -> Vec<String> {
+/// The drawing's lines. Both templates spell `text`; `names` has those of the left and of the right template.
+pub fn drawing(names: [&str; 2], left: &[Piece], text: &[u8], right: &[Piece]) -> Vec<String> {
     let columns = Columns::new(left, right, text.len());
     let [left_labels, left_spans] = columns.rows(left);
     let [right_labels, right_spans] = columns.rows(right);
     let rows = [
-        ("left", left_labels),
+        (names[0], left_labels),
         ("", left_spans),
         ("text", columns.letters(text)),
         ("", right_spans),
-        ("right", right_labels),
+        (names[1], right_labels),
     ];
+    let wide = rows.iter().map(|(name, _)| name.chars().count()).max();
+    let wide = wide.unwrap_or(0) + 3;
     let mut lines = Vec::new();
     for (from, to) in columns.cuts(left, right) {
         if from > 0 {
@@ -41,7 +43,7 @@ pub fn drawing(left: &[Piece], text: &[u8], right: &[Piece]) -> Vec<String> {
         }
         for (name, row) in &rows {
             let part: String = row.chars().skip(from).take(to - from).collect();
-            lines.push(format!("{name:<7} {part}").trim_end().to_string());
+            lines.push(format!("{name:<wide$}{part}").trim_end().to_string());
         }
     }
     lines

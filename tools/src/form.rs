@@ -64,7 +64,7 @@ pub enum Part {
 const MARK: &[u8] = b"TPL";
 const VERSION: u16 = 1;
 /// Field f is the symbol 128 + f.
-pub const FIRST_FIELD_SYMBOL: usize = 128;
+const FIRST_FIELD_SYMBOL: usize = 128;
 
 impl Pair {
     pub fn side(&self, side: Side) -> &[Symbol] {
@@ -115,15 +115,6 @@ impl Form {
         bytes
     }
 
-    /// The width of a template: its letters, and the limit of each field as often as it stands there.
-    pub fn width(&self, template: &[Symbol]) -> u64 {
-        let width = |symbol: &Symbol| match *symbol {
-            Symbol::Letter(_) => 1,
-            Symbol::Field(field) => self.fields[field].limit,
-        };
-        template.iter().map(width).sum()
-    }
-
     /// The bytes alone.
     pub fn sheet(&self) -> Vec<u8> {
         self.bytes().into_iter().map(|row| row.0).collect()
@@ -142,14 +133,32 @@ impl Form {
     }
 }
 
-fn count(n: usize) -> u8 {
+/// The width of a template over these fields: its letters, and the limit of each field as often as it stands there.
+pub fn width(fields: &[Field], template: &[Symbol]) -> u64 {
+    let width = |symbol: &Symbol| match *symbol {
+        Symbol::Letter(_) => 1,
+        Symbol::Field(field) => fields[field].limit,
+    };
+    template.iter().map(width).sum()
+}
+
+/// A count, limit or number as a byte.
+pub fn count(n: usize) -> u8 {
     n.min(255) as u8
 }
 
-fn symbol_byte(symbol: Symbol) -> u8 {
+pub fn symbol_byte(symbol: Symbol) -> u8 {
     match symbol {
         Symbol::Letter(letter) => count(letter),
         Symbol::Field(field) => count(FIRST_FIELD_SYMBOL + field),
+    }
+}
+
+/// The symbol of a byte of an accepted sheet or book.
+pub fn symbol(byte: u8) -> Symbol {
+    match usize::from(byte).checked_sub(FIRST_FIELD_SYMBOL) {
+        Some(field) => Symbol::Field(field),
+        None => Symbol::Letter(usize::from(byte)),
     }
 }
 
@@ -185,12 +194,7 @@ impl<'a> Accepted<'a> {
     }
 
     fn symbols(&mut self, n: usize) -> Vec<Symbol> {
-        let bytes = self.take(n).iter().map(|&byte| usize::from(byte));
-        let symbol = |byte: usize| match byte.checked_sub(FIRST_FIELD_SYMBOL) {
-            Some(field) => Symbol::Field(field),
-            None => Symbol::Letter(byte),
-        };
-        bytes.map(symbol).collect()
+        self.take(n).iter().map(|&byte| symbol(byte)).collect()
     }
 
     fn rule(&mut self, fields: usize) -> Rule {

@@ -1,12 +1,12 @@
 //! Takes a sheet from a file, as text or as bytes, and has the engine read it. Where the engine refuses it, the place at fault is the end of
 //! the shortest start of the sheet's bytes that the engine refuses for the same reason.
 
-use crate::form::{Form, Part};
+use crate::file::{self, Content, File, Kind};
+use crate::form::{self, Form, Part};
+use crate::letters;
 use crate::parse::{self, Read};
-use crate::source::{Fault, Place, Places, Shown};
+use crate::source::{shown, Fault, Place, Places};
 use lunthegyr::{calls, Refusal, Sheet};
-use std::fs;
-use std::io::{self, Read as _};
 
 /// An accepted sheet.
 pub struct Input {
@@ -36,24 +36,24 @@ const MOST: [usize; 4] = [
 ];
 const HEADER_BYTES: usize = 9;
 
-/// Reads a file; `-` is standard input. What is wrong is told in words.
+/// Takes a sheet from a file. What is wrong is told in words.
 pub fn load(path: &str) -> Result<Input, String> {
-    let (name, content) = match path {
-        "-" => ("standard input", from_standard_input()),
-        _ => (path, fs::read(path)),
-    };
-    let content = content.map_err(|error| format!("{name}: {error}"))?;
-    if path.ends_with(".tpl") || content.starts_with(b"TPL") {
-        of_bytes(name, content)
-    } else {
-        of_text(name, content)
+    let file = file::open(path, Kind::Sheet)?;
+    match file.kind {
+        Kind::Sheet => of(file),
+        Kind::Book => Err(format!(
+            "{}: this is a book of templates and no sheet; `lunthegyr book` takes it",
+            file.name
+        )),
     }
 }
 
-fn from_standard_input() -> io::Result<Vec<u8>> {
-    let mut bytes = Vec::new();
-    io::stdin().read_to_end(&mut bytes)?;
-    Ok(bytes)
+/// The sheet of a file that has one.
+pub fn of(file: File) -> Result<Input, String> {
+    match file.content {
+        Content::Bytes(bytes) => of_bytes(&file.name, bytes),
+        Content::Text(text) => of_text(&file.name, &text),
+    }
 }
 
 fn of_bytes(name: &str, content: Vec<u8>) -> Result<Input, String> {
@@ -71,23 +71,8 @@ fn of_bytes(name: &str, content: Vec<u8>) -> Result<Input, String> {
     }
 }
 
-fn of_text(name: &str, content: Vec<u8>) -> Result<Input, String> {
-    let text = match String::from_utf8(content) {
-        // Some editors put a mark of the byte order first.
-        Ok(text) => text.trim_start_matches('\u{feff}').to_string(),
-        Err(error) => {
-            let good = error.utf8_error().valid_up_to();
-            let text = String::from_utf8_lossy(error.as_bytes()).into_owned();
-            let before = &text[..good];
-            let place = Place {
-                line: before.matches('\n').count() + 1,
-                column: before.chars().rev().take_while(|&c| c != '\n').count() + 1,
-            };
-            let message = "this byte is no text: save the sheet as plain text, UTF-8".to_string();
-            return Err(shown(name, &text, &Fault { place, message }));
-        }
-    };
-    let Read { form, places } = parse::parse(&text).map_err(|fault| shown(name, &text, &fault))?;
+fn of_text(name: &str, text: &str) -> Result<Input, String> {
+    let Read { form, places } = parse::parse(text).map_err(|fault| shown(name, text, &fault))?;
     let bytes = form.bytes();
     let sheet = form.sheet();
     match Sheet::read(sheet.clone()) {
@@ -100,32 +85,29 @@ fn of_text(name: &str, content: Vec<u8>) -> Result<Input, String> {
         Err(refusal) => {
             let part = bytes.get(offset(&sheet, refusal)).map(|row| row.1);
             let fault = refused(&form, &places, refusal, part);
-            Err(shown(name, &text, &fault))
+            Err(shown(name, text, &fault))
         }
     }
-}
-
-fn shown(name: &str, text: &str, fault: &Fault) -> String {
-    Shown { name, text, fault }.to_string()
 }
 
 /// A refusal at the part of the text where the engine met it, with what the text has there.
 fn refused(form: &Form, places: &Places, refusal: Refusal, part: Option<Part>) -> Fault {
     let mut place = part.map_or(places.end, |part| places.of(part, MOST));
     let note = match (refusal, part) {
-        (Refusal::LetterCount, _) => format!(
-            "{} here, every sign that is no space being one; letters that stand in no template can be left out",
-            form.letters.len()
-        ),
+        (Refusal::LetterCount, _) => letters::counted(&form.letters),
         (Refusal::FieldCount, _) => format!("{} here", form.fields.len()),
-        (Refusal::PairCount, _) if form.pairs.is_empty() => "there is no line `pair ..`".to_string(),
+        (Refusal::PairCount, _) if form.pairs.is_empty() => {
+            "there is no line `pair ..`".to_string()
+        }
         (Refusal::PairCount, _) => format!("{} here", form.pairs.len()),
-        (Refusal::RuleCount, _) => format!("{} here, a rule with `=` counted as two", form.rules.len()),
-        (Refusal::Letter, _) => format!("in order, and each once: {}", form.letters_in_order()),
+        (Refusal::RuleCount, _) => {
+            format!("{} here, a rule with `=` counted as two", form.rules.len())
+        }
+        (Refusal::Letter, _) => letters::rising(&form.letters),
         (Refusal::Width, Some(Part::Symbol(pair, ..) | Part::SymbolCount(pair, _))) => {
             place = places.pairs[pair].start;
             let sides = [&form.pairs[pair].left, &form.pairs[pair].right];
-            let [left, right] = sides.map(|side| form.width(side));
+            let [left, right] = sides.map(|side| form::width(&form.fields, side));
             format!("the left one is {left} wide, the right one {right}")
         }
         _ => String::new(),

@@ -1,7 +1,7 @@
 //! One line of a text, read from left to right.
 
+use crate::letters::SPECIAL;
 use crate::source::{Fault, Place};
-use crate::text::SPECIAL;
 
 pub struct Line {
     chars: Vec<char>,
@@ -66,28 +66,28 @@ impl Line {
 
     /// Passes a sign, or says what it is needed for.
     pub fn expect(&mut self, sign: char, why: &str) -> Result<(), Fault> {
-        if self.passes(sign) {
-            return Ok(());
+        match self.passes(sign) {
+            true => Ok(()),
+            false => self.expected(&format!("`{sign}` {why}")),
         }
+    }
+
+    /// Says that something else was expected than what comes next.
+    pub fn expected<T>(&mut self, what: &str) -> Result<T, Fault> {
         let found = self.found();
-        self.fault(format!("expected `{sign}` {why}, and found {found}"))
+        self.fault(format!("expected {what}, and found {found}"))
     }
 
     /// The end of the line, or what stands before it.
     pub fn end(&mut self, after: &str) -> Result<(), Fault> {
         match self.peek() {
             None => Ok(()),
-            Some(_) => {
-                let found = self.found();
-                self.fault(format!(
-                    "expected nothing more after {after}, and found {found}"
-                ))
-            }
+            Some(_) => self.expected(&format!("nothing more after {after}")),
         }
     }
 
     /// What comes next, in words.
-    pub fn found(&mut self) -> String {
+    fn found(&mut self) -> String {
         match self.peek() {
             None => "the end of the line".to_string(),
             Some(c) => format!("`{c}`"),
@@ -103,6 +103,36 @@ impl Line {
             return String::new();
         }
         self.run(|c| c.is_ascii_alphanumeric() || c == '_')
+    }
+
+    /// Such a word, with dashes in it or after it too.
+    pub fn dashed(&mut self) -> String {
+        let word = self.word();
+        match word.is_empty() {
+            true => word,
+            false => word + &self.run(|c| c.is_ascii_alphanumeric() || c == '_' || c == '-'),
+        }
+    }
+
+    /// The name of a field, and where it stands.
+    pub fn field_name(&mut self) -> Result<(String, Place), Fault> {
+        self.peek();
+        let place = self.place();
+        let name = self.word();
+        match name.is_empty() {
+            true => self.expected("a field's name"),
+            false => Ok((name, place)),
+        }
+    }
+
+    /// The limit of a field of this name.
+    pub fn limit(&mut self, name: &str) -> Result<u64, Fault> {
+        match self.number()? {
+            Some(limit) => Ok(limit as u64),
+            None => self.expected(&format!(
+                "the limit of `{name}`, the most letters of its text"
+            )),
+        }
     }
 
     /// A number without a sign, if one comes next.

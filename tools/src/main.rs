@@ -1,12 +1,15 @@
-//! A readable form of sheets, and what the proved engine says of them. It decides nothing itself: it turns text into a sheet's bytes and
-//! back, and hands the bytes to the engine.
+//! A readable form of sheets and books, and what the proved engine says of them. It decides nothing itself: it turns text into bytes and back, and
+//! hands the bytes to the engine.
 
 mod apart;
+mod book;
 mod count;
 mod draw;
+mod file;
 mod fill;
 mod form;
 mod input;
+mod letters;
 mod line;
 mod opinion;
 mod parse;
@@ -16,12 +19,15 @@ mod source;
 mod text;
 mod ticks;
 mod verdict;
+mod words;
 
+use book::opinion::Outcome;
+use file::Kind;
 use lunthegyr::Refusal;
-use opinion::Choice;
 use std::fs;
 use std::io::{self, Write};
 use std::process::ExitCode;
+use words::Words;
 
 /// The launcher prints it too, where nothing is built yet.
 const USAGE: &str = include_str!("help.txt");
@@ -44,6 +50,7 @@ fn main() -> ExitCode {
     let done = match words.first().map(String::as_str) {
         Some("help") => say(USAGE.as_bytes()).map(|()| 0),
         _ if help => say(USAGE.as_bytes()).map(|()| 0),
+        Some("book") => book(&words[1..]),
         Some("check") => check(&words[1..]),
         Some("count") => count(&words[1..]),
         Some("fill") => fill(&words[1..]),
@@ -76,61 +83,44 @@ fn faulty(message: String) -> Failure {
     }
 }
 
-/// What `check` is to do.
-struct Asked<'a> {
-    solver: Option<Choice>,
-    exit_code: bool,
-    files: Vec<&'a str>,
-}
-
-fn asked(words: &[String]) -> Result<Asked<'_>, Failure> {
-    let mut asked = Asked {
-        solver: None,
-        exit_code: false,
-        files: Vec::new(),
-    };
-    let mut words = words.iter().map(String::as_str).peekable();
-    while let Some(word) = words.next() {
-        match word.strip_prefix("--solver") {
-            Some("") => {
-                let name = words.next_if(|next| solver::KNOWN.contains(next));
-                asked.solver = Some(match name {
-                    Some(name) => Choice::Named(name.to_string()),
-                    None => Choice::Any,
-                });
-            }
-            Some(rest) if rest.starts_with('=') => {
-                asked.solver = Some(Choice::Named(rest[1..].to_string()));
-            }
-            _ if word == "--exit-code" => asked.exit_code = true,
-            _ if is_option(word) => return misuse(format!("no such option: {word}")),
-            _ => asked.files.push(word),
-        }
-    }
-    if asked.files.is_empty() {
-        return misuse("check needs a sheet".to_string());
-    }
-    Ok(asked)
-}
-
 fn check(words: &[String]) -> Result<u8, Failure> {
-    let asked = asked(words)?;
-    let solver = asked.solver.map(|choice| choice.name());
-    let solver = solver.transpose().map_err(faulty)?;
-    let status = each(&asked.files, |file| check_one(file, solver.as_deref()))?;
-    Ok(match status {
-        CLASH | APART if !asked.exit_code => 0,
+    let words = taken(words, words::OF_CHECK, "check needs a sheet")?;
+    let solver = solver(&words)?;
+    let status = each(&words.files, "sheets", |file| {
+        check_one(file, solver.as_deref())
+    })?;
+    Ok(verdict_status(status, &words))
+}
+
+/// The words of a command that needs a file.
+fn taken<'a>(words: &'a [String], options: &[&str], need: &str) -> Result<Words<'a>, Failure> {
+    match words::taken(words, options) {
+        Err(message) => misuse(message),
+        Ok(words) if words.files.is_empty() => misuse(need.to_string()),
+        Ok(words) => Ok(words),
+    }
+}
+
+/// The solver that is to be asked, if one is.
+fn solver(words: &Words) -> Result<Option<String>, Failure> {
+    let name = words.solver.as_ref().map(|choice| choice.name());
+    name.transpose().map_err(faulty)
+}
+
+/// A clash and apart have a status of their own only where that is asked for.
+fn verdict_status(status: u8, words: &Words) -> u8 {
+    match status {
+        CLASH | APART if !words.exit_code => 0,
         status => status,
-    })
+    }
 }
 
-/// `-` alone is standard input.
-fn is_option(word: &str) -> bool {
-    word.starts_with('-') && word != "-"
-}
-
-/// Goes through all sheets, also where one is faulty. Of several statuses the worst is given.
-fn each(files: &[&str], one: impl Fn(&str) -> Result<u8, Failure>) -> Result<u8, Failure> {
+/// Goes through all files, of sheets or books, also where one is faulty. Of several statuses the worst is given.
+fn each(
+    files: &[&str],
+    things: &str,
+    one: impl Fn(&str) -> Result<u8, Failure>,
+) -> Result<u8, Failure> {
     let (mut statuses, mut unanswered) = (Vec::new(), 0);
     for (number, file) in files.iter().enumerate() {
         if number > 0 {
@@ -147,7 +137,7 @@ fn each(files: &[&str], one: impl Fn(&str) -> Result<u8, Failure>) -> Result<u8,
     if unanswered > 0 {
         if files.len() > 1 {
             eprintln!(
-                "lunthegyr: {unanswered} of {} sheets not answered",
+                "lunthegyr: {unanswered} of {} {things} not answered",
                 files.len()
             );
         }
@@ -177,14 +167,47 @@ fn check_one(file: &str, solver: Option<&str>) -> Result<u8, Failure> {
     })
 }
 
-fn count(words: &[String]) -> Result<u8, Failure> {
-    let files: Vec<&str> = words.iter().map(String::as_str).collect();
-    let option = files.iter().find(|word| is_option(word));
-    match option {
-        Some(option) => misuse(format!("no such option: {option}")),
-        None if files.is_empty() => misuse("count needs a sheet".to_string()),
-        None => each(&files, count_one),
+fn book(words: &[String]) -> Result<u8, Failure> {
+    let words = taken(words, words::OF_BOOK, "book needs a book")?;
+    if let Some(templates) = words.sheet {
+        return sheet_of_book(words.files[0], templates);
     }
+    let solver = solver(&words)?;
+    let status = each(&words.files, "books", |file| {
+        book_one(file, solver.as_deref())
+    })?;
+    Ok(verdict_status(status, &words))
+}
+
+fn book_one(file: &str, solver: Option<&str>) -> Result<u8, Failure> {
+    let input = book::input::load(file).map_err(faulty)?;
+    say_lines(&book::verdict::of(&input))?;
+    if let Some(name) = solver {
+        let (outcome, lines) = book::opinion::of(&input, name);
+        say_lines(&lines)?;
+        match outcome {
+            Outcome::Agree => {}
+            Outcome::Undecided => return Ok(FAULT),
+            Outcome::Disagree => return Ok(DISAGREE),
+        }
+    }
+    Ok(match input.book.clashes().is_empty() {
+        true => APART,
+        false => CLASH,
+    })
+}
+
+/// Writes the question of two templates as a sheet.
+fn sheet_of_book(file: &str, templates: [&str; 2]) -> Result<u8, Failure> {
+    let input = book::input::load(file).map_err(faulty)?;
+    let text = book::question::text(&input, templates).map_err(faulty)?;
+    say(text.as_bytes())?;
+    Ok(0)
+}
+
+fn count(words: &[String]) -> Result<u8, Failure> {
+    let words = taken(words, words::NONE, "count needs a sheet")?;
+    each(&words.files, "sheets", count_one)
 }
 
 fn count_one(file: &str) -> Result<u8, Failure> {
@@ -208,12 +231,16 @@ fn fill(words: &[String]) -> Result<u8, Failure> {
 fn bytes(words: &[String]) -> Result<u8, Failure> {
     let (file, out) = match words {
         [file, out] => (file, out),
-        _ => return misuse("bytes needs a sheet and a file to write to".to_string()),
+        _ => return misuse("bytes needs a book or sheet, and a file to write to".to_string()),
     };
-    let input = input::load(file).map_err(faulty)?;
-    let bytes = input.sheet.bytes();
+    let file = file::open(file, Kind::Sheet).map_err(faulty)?;
+    let bytes = match file.kind {
+        Kind::Sheet => input::of(file).map(|input| input.sheet.bytes().to_vec()),
+        Kind::Book => book::input::of(file).map(|input| input.book.bytes().to_vec()),
+    };
+    let bytes = bytes.map_err(faulty)?;
     match out.as_str() {
-        "-" => say(bytes)?,
+        "-" => say(&bytes)?,
         _ => fs::write(out, bytes).map_err(|error| faulty(format!("{out}: {error}")))?,
     }
     Ok(0)
@@ -222,10 +249,14 @@ fn bytes(words: &[String]) -> Result<u8, Failure> {
 fn text(words: &[String]) -> Result<u8, Failure> {
     let file = match words {
         [file] => file,
-        _ => return misuse("text needs a sheet".to_string()),
+        _ => return misuse("text needs a book or sheet".to_string()),
     };
-    let input = input::load(file).map_err(faulty)?;
-    say(input.form.text().as_bytes())?;
+    let file = file::open(file, Kind::Sheet).map_err(faulty)?;
+    let text = match file.kind {
+        Kind::Sheet => input::of(file).map(|input| input.form.text()),
+        Kind::Book => book::input::of(file).map(|input| input.form.text()),
+    };
+    say(text.map_err(faulty)?.as_bytes())?;
     Ok(0)
 }
 

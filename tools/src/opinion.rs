@@ -3,7 +3,7 @@
 use crate::input::Input;
 use crate::solver::{self, Opinion, KNOWN};
 use crate::verdict;
-use lunthegyr::Filling;
+use lunthegyr::{Filling, Sheet};
 
 /// Which solver to ask.
 pub enum Choice {
@@ -43,26 +43,19 @@ pub fn of(
         counts.clauses, counts.variables
     );
     eprintln!("asking {name}: {question} ..");
-    let opinion = solver::ask(name, &input.sheet).map_err(|error| format!("{name}: {error}"))?;
+    let answer = answer(name, &input.sheet)?;
     let mut lines = vec![
         String::new(),
         format!("second opinion: {name}, on the same question as {question}"),
     ];
-    match (&opinion, found) {
-        (Opinion::Clash(filling), _) => lines.push(format!(
+    lines.push(match &answer {
+        Some(filling) => format!(
             "  says SATISFIABLE, and its reply hands over a clash, which the engine checked: {}",
             texts(input, filling)
-        )),
-        (Opinion::Unsatisfiable, _) => lines.push(
-            "  says UNSATISFIABLE. Nothing here checks a solver's word for that.".to_string(),
         ),
-        (Opinion::Refused(refusal), _) => {
-            return Err(format!("what {name} replied is not taken: {refusal}"))
-        }
-        (Opinion::Nothing(status), _) => return Err(format!("{name} gave no answer ({status})")),
-    }
-    let solver_clash = matches!(opinion, Opinion::Clash(_));
-    lines.push(match (found.is_some(), solver_clash) {
+        None => "  says UNSATISFIABLE. Nothing here checks a solver's word for that.".to_string(),
+    });
+    lines.push(match (found.is_some(), answer.is_some()) {
         (true, true) | (false, false) => {
             "  The two agree. Both were asked about the same bytes.".to_string()
         }
@@ -74,8 +67,18 @@ pub fn of(
                 .to_string()
         }
     });
-    let agree = found.is_some() == solver_clash;
+    let agree = found.is_some() == answer.is_some();
     Ok((agree, lines))
+}
+
+/// The solver's answer: a clash that the engine checked, or none. If it gave none, why in words.
+pub fn answer(name: &str, sheet: &Sheet) -> Result<Option<Filling>, String> {
+    match solver::ask(name, sheet).map_err(|error| format!("{name}: {error}"))? {
+        Opinion::Clash(filling) => Ok(Some(filling)),
+        Opinion::Unsatisfiable => Ok(None),
+        Opinion::Refused(refusal) => Err(format!("what {name} replied is not taken: {refusal}")),
+        Opinion::Nothing(status) => Err(format!("{name} gave no answer ({status})")),
+    }
 }
 
 /// All texts in a line.

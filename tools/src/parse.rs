@@ -9,6 +9,7 @@
 //! may stand after what uses them. What a sheet may have is not judged here: the engine does that.
 
 use crate::form::{Field, Form, Pair, Rule, Symbol};
+use crate::letters;
 use crate::line::{fault_at, Line};
 use crate::rule;
 use crate::source::{Fault, PairPlaces, Place, Places, RulePlaces};
@@ -37,9 +38,7 @@ pub fn parse(text: &str) -> Result<Read, Fault> {
             read.line(line, &mut later)?;
         }
     }
-    if read.form.letters.is_empty() {
-        return fault_at(read.places.end, "there is no line `letters ..`");
-    }
+    letters::needed(&read.form.letters, read.places.end)?;
     for line in later.pairs {
         read.pair(line)?;
     }
@@ -51,11 +50,6 @@ pub fn parse(text: &str) -> Result<Read, Fault> {
 
 impl Read {
     fn empty(text: &str) -> Read {
-        let last = text.lines().last().unwrap_or("");
-        let end = Place {
-            line: text.lines().count().max(1),
-            column: last.chars().count() + 1,
-        };
         let form = Form {
             letters: Vec::new(),
             fields: Vec::new(),
@@ -68,7 +62,7 @@ impl Read {
             limits: Vec::new(),
             pairs: Vec::new(),
             rules: Vec::new(),
-            end,
+            end: Place::end_of(text),
         };
         Read { form, places }
     }
@@ -76,7 +70,12 @@ impl Read {
     fn line(&mut self, mut line: Line, later: &mut Later) -> Result<(), Fault> {
         let start = line.place();
         match line.word().as_str() {
-            "letters" => self.letters(start, line)?,
+            "letters" => letters::read(
+                start,
+                line,
+                &mut self.form.letters,
+                &mut self.places.letters,
+            )?,
             "field" => self.field(line)?,
             "pair" => later.pairs.push(line),
             "rule" => later.rules.push(line),
@@ -90,31 +89,8 @@ impl Read {
         Ok(())
     }
 
-    fn letters(&mut self, start: Place, mut line: Line) -> Result<(), Fault> {
-        if let Some(first) = self.places.letters.first() {
-            return fault_at(
-                start,
-                format!("a second line of letters; the first is line {}", first.line),
-            );
-        }
-        while line.peek().is_some() {
-            self.places.letters.push(line.place());
-            self.form.letters.push(line.letter()?);
-        }
-        if self.form.letters.is_empty() {
-            return line.fault("at least one letter is needed");
-        }
-        Ok(())
-    }
-
     fn field(&mut self, mut line: Line) -> Result<(), Fault> {
-        line.peek();
-        let start = line.place();
-        let name = line.word();
-        if name.is_empty() {
-            let found = line.found();
-            return line.fault(format!("expected the field's name, and found {found}"));
-        }
+        let (name, start) = line.field_name()?;
         if let Some(number) = self.named(&name) {
             let first = self.places.fields[number].line;
             return fault_at(
@@ -124,16 +100,8 @@ impl Read {
         }
         line.peek();
         let place = line.place();
-        match line.number()? {
-            Some(limit) => self.form.fields.push(Field {
-                name,
-                limit: limit as u64,
-            }),
-            None => {
-                let found = line.found();
-                return line.fault(format!("expected the limit of `{name}`, the most letters of its text, and found {found}"));
-            }
-        }
+        let limit = line.limit(&name)?;
+        self.form.fields.push(Field { name, limit });
         self.places.fields.push(start);
         self.places.limits.push(place);
         line.end("the limit")
@@ -171,33 +139,15 @@ impl Read {
             symbols.push(if line.passes('{') {
                 Symbol::Field(self.field_name(line, '}')?)
             } else {
-                self.letter(line)?
+                letters::symbol(line, &self.form.letters)?
             });
         }
         Ok((symbols, places))
     }
 
-    fn letter(&self, line: &mut Line) -> Result<Symbol, Fault> {
-        let place = line.place();
-        let letter = line.letter()?;
-        match self.form.letters.iter().position(|&known| known == letter) {
-            Some(number) => Ok(Symbol::Letter(number)),
-            None => fault_at(
-                place,
-                format!("`{}` is not on the line of letters", char::from(letter)),
-            ),
-        }
-    }
-
     /// The number of the field whose name comes next, with a sign after it.
     fn field_name(&self, line: &mut Line, end: char) -> Result<usize, Fault> {
-        line.peek();
-        let place = line.place();
-        let name = line.word();
-        if name.is_empty() {
-            let found = line.found();
-            return fault_at(place, format!("expected a field's name, and found {found}"));
-        }
+        let (name, place) = line.field_name()?;
         line.expect(end, "after the field's name")?;
         match self.named(&name) {
             Some(number) => Ok(number),

@@ -87,8 +87,6 @@ impl Relation {
 
     /// A number, a length, or both with or without a `*` between them.
     fn term(&mut self, line: &mut Line, named: Named, sign: i64) -> Result<(), Fault> {
-        line.peek();
-        let place = line.place();
         let number = line.number()?;
         let times = number.is_some() && line.passes('*');
         let more = line.peek().map_or(false, |c| c.is_ascii_alphabetic());
@@ -98,13 +96,7 @@ impl Relation {
                     self.sum.constant += sign * number;
                     Ok(())
                 }
-                None => {
-                    let found = line.found();
-                    fault_at(
-                        place,
-                        format!("expected a number or `len(FIELD)`, and found {found}"),
-                    )
-                }
+                None => line.expected("a number or `len(FIELD)`"),
             };
         }
         line.peek();
@@ -127,12 +119,7 @@ fn sign(line: &mut Line) -> Result<Sign, Fault> {
         Some('<') => (Sign::Below, Sign::AtMost),
         Some('>') => (Sign::Above, Sign::AtLeast),
         Some('=') => (Sign::Equal, Sign::Equal),
-        _ => {
-            let found = line.found();
-            return line.fault(format!(
-                "expected `<=`, `>=`, `<`, `>` or `=`, and found {found}"
-            ));
-        }
+        _ => return line.expected("`<=`, `>=`, `<`, `>` or `=`"),
     };
     line.pass();
     if matches!(strict, Sign::Equal) {

@@ -40,6 +40,17 @@ pub struct RulePlaces {
     pub fields: Vec<(usize, Place)>,
 }
 
+impl Place {
+    /// Where a text ends.
+    pub fn end_of(text: &str) -> Place {
+        let last = text.lines().last().unwrap_or("");
+        Place {
+            line: text.lines().count().max(1),
+            column: last.chars().count() + 1,
+        }
+    }
+}
+
 impl Places {
     /// The place of a part. Of a count, that of the first that is too many, or the end of the text where there are too few.
     pub fn of(&self, part: Part, most: [usize; 4]) -> Place {
@@ -73,11 +84,15 @@ impl Places {
     }
 }
 
-/// Shows a fault in a text of a name.
-pub struct Shown<'a> {
-    pub name: &'a str,
-    pub text: &'a str,
-    pub fault: &'a Fault,
+/// A fault in a text of a name, in words.
+pub fn shown(name: &str, text: &str, fault: &Fault) -> String {
+    Shown { name, text, fault }.to_string()
+}
+
+struct Shown<'a> {
+    name: &'a str,
+    text: &'a str,
+    fault: &'a Fault,
 }
 
 /// The most that is shown of a line, and how much of that stands before the place.

@@ -1,14 +1,12 @@
 //! Writes a sheet in the text form, so that reading it gives the same bytes.
 
 use crate::form::{Form, Pair, Rule, Symbol};
-
-/// The letters that mean something else in the text form, unless a backslash stands before them.
-pub const SPECIAL: &str = "{}=#\\";
+use crate::letters;
 
 impl Form {
     /// The whole sheet, line by line.
     pub fn text(&self) -> String {
-        let mut text = letters_line(&self.letters) + "\n";
+        let mut text = letters::written(&self.letters) + "\n";
         for field in &self.fields {
             text += &format!("field {} {}\n", field.name, field.limit);
         }
@@ -19,14 +17,6 @@ impl Form {
             text += &format!("rule {}\n", self.rule_text(rule));
         }
         text
-    }
-
-    /// The line of letters as it would be in their order, each once.
-    pub fn letters_in_order(&self) -> String {
-        let mut letters = self.letters.clone();
-        letters.sort_unstable();
-        letters.dedup();
-        letters_line(&letters)
     }
 
     /// A pair's two templates.
@@ -41,7 +31,7 @@ impl Form {
     /// A symbol as a template shows it.
     pub fn label(&self, symbol: Symbol) -> String {
         match symbol {
-            Symbol::Letter(letter) => escaped(self.letters[letter]),
+            Symbol::Letter(letter) => letters::escaped(self.letters[letter]),
             Symbol::Field(field) => format!("{{{}}}", self.fields[field].name),
         }
     }
@@ -75,19 +65,5 @@ impl Form {
         }
         let relation = if turned { ">=" } else { "<=" };
         format!("{sum} {relation} {}", sign * i64::from(rule.limit))
-    }
-}
-
-fn letters_line(letters: &[u8]) -> String {
-    let letters = letters.iter().map(|&letter| escaped(letter));
-    format!("letters {}", letters.collect::<Vec<_>>().join(" "))
-}
-
-fn escaped(letter: u8) -> String {
-    let letter = char::from(letter);
-    if SPECIAL.contains(letter) {
-        format!("\\{letter}")
-    } else {
-        letter.to_string()
     }
 }

@@ -66,12 +66,7 @@ fn clash(input: &Input, filling: &Filling) -> Vec<String> {
         lines.push(String::new());
         let line = input.line_of(|places| places.pairs[number].start);
         lines.push(format!("pair {number}{line}"));
-        let drawn = drawn(input, filling, number);
-        lines.extend(
-            drawn
-                .iter()
-                .map(|line| format!("  {line}").trim_end().to_string()),
-        );
+        lines.extend(drawn(input, filling, number, ["left", "right"]));
     }
     lines.push(String::new());
     let fields = input.form.fields.iter().enumerate();
@@ -103,19 +98,22 @@ fn or_empty(text: &str) -> &str {
     }
 }
 
-/// How the two templates of a pair meet. The texts are those that the engine spells.
-fn drawn(input: &Input, filling: &Filling, number: usize) -> Vec<String> {
-    let spelled = |side| {
-        input
-            .sheet
-            .spell(number, side, filling)
-            .expect("a pair of the sheet and a filling of it")
-    };
-    let text = spelled(Side::Left);
+/// The text that both templates of a pair spell, as the engine spells it.
+pub fn spelled(input: &Input, filling: &Filling, number: usize) -> Vec<u8> {
+    let [left, right] = [Side::Left, Side::Right].map(|side| {
+        let text = input.sheet.spell(number, side, filling);
+        text.expect("a pair of the sheet and a filling of it")
+    });
     assert!(
-        text == spelled(Side::Right),
+        left == right,
         "the engine passes a filling with which two texts differ"
     );
+    left
+}
+
+/// How the two templates of a pair, of these names, meet.
+pub fn drawn(input: &Input, filling: &Filling, number: usize, names: [&str; 2]) -> Vec<String> {
+    let text = spelled(input, filling, number);
     let pieces = |side| {
         let symbols = input.form.pairs[number].side(side).iter();
         let pieces: Vec<Piece> = symbols
@@ -123,7 +121,10 @@ fn drawn(input: &Input, filling: &Filling, number: usize) -> Vec<String> {
             .collect();
         pieces
     };
-    draw::drawing(&pieces(form::Side::Left), &text, &pieces(form::Side::Right))
+    let (left, right) = (pieces(form::Side::Left), pieces(form::Side::Right));
+    let lines = draw::drawing(names, &left, &text, &right);
+    let further = |line: &String| format!("  {line}").trim_end().to_string();
+    lines.iter().map(further).collect()
 }
 
 fn piece(input: &Input, filling: &Filling, symbol: Symbol) -> Piece {

@@ -1,0 +1,182 @@
+//! Reads the text form of a book. A line starts with one of two words:
+//!
+//!     letters 0 1 2 A                              the letters, in the order of their ASCII numbers
+//!     template hold-up = A{shop 4}{zone 2}{shop}   a template of letters, and of fields in braces; a field's limit stands where it comes first
+//!     template odd (zone 2, shop 4) = A{shop}      limits may also be given before, for fields that stand nowhere or in another order
+//!
+//! Fields are numbered in the order of their limits. Spaces, comments and backslashes are as in the text form of a sheet. What a book may have
+//! is not judged here: the engine does that.
+
+use super::form::{Form, Template};
+use super::places::{Places, TemplatePlaces};
+use crate::form::{Field, Symbol};
+use crate::letters;
+use crate::line::{fault_at, Line};
+use crate::source::{Fault, Place};
+
+/// A book's text as it was read.
+pub struct Read {
+    pub form: Form,
+    pub places: Places,
+}
+
+pub fn parse(text: &str) -> Result<Read, Fault> {
+    let mut read = Read {
+        form: Form {
+            letters: Vec::new(),
+            templates: Vec::new(),
+        },
+        places: Places {
+            letters: Vec::new(),
+            templates: Vec::new(),
+            end: Place::end_of(text),
+        },
+    };
+    // They are read once all letters are known.
+    let mut templates = Vec::new();
+    for (number, text) in text.lines().enumerate() {
+        let mut line = Line::new(text, number + 1);
+        if line.peek().is_some() {
+            read.line(line, &mut templates)?;
+        }
+    }
+    letters::needed(&read.form.letters, read.places.end)?;
+    for line in templates {
+        read.template(line)?;
+    }
+    Ok(read)
+}
+
+impl Read {
+    fn line(&mut self, mut line: Line, templates: &mut Vec<Line>) -> Result<(), Fault> {
+        let start = line.place();
+        match line.word().as_str() {
+            "letters" => {
+                let places = &mut self.places.letters;
+                letters::read(start, line, &mut self.form.letters, places)
+            }
+            "template" => {
+                templates.push(line);
+                Ok(())
+            }
+            _ => fault_at(start, "a line starts with `letters` or `template`"),
+        }
+    }
+
+    fn template(&mut self, mut line: Line) -> Result<(), Fault> {
+        line.peek();
+        let start = line.place();
+        let name = line.dashed();
+        if name.is_empty() {
+            return line.expected("the template's name");
+        }
+        let same = |template: &Template| template.name == name;
+        if let Some(number) = self.form.templates.iter().position(same) {
+            let first = self.places.templates[number].start.line;
+            return fault_at(
+                start,
+                format!("a second template `{name}`; the first is on line {first}"),
+            );
+        }
+        let mut reading = Reading::new(name, start);
+        if line.passes('(') {
+            reading.list(&mut line)?;
+        }
+        line.expect('=', "before the template")?;
+        reading.symbols(&mut line, &self.form.letters)?;
+        self.form.templates.push(reading.template);
+        self.places.templates.push(reading.places);
+        Ok(())
+    }
+}
+
+/// What has been read of a template.
+struct Reading {
+    template: Template,
+    places: TemplatePlaces,
+}
+
+impl Reading {
+    fn new(name: String, start: Place) -> Reading {
+        Reading {
+            template: Template {
+                name,
+                fields: Vec::new(),
+                symbols: Vec::new(),
+            },
+            places: TemplatePlaces {
+                start,
+                fields: Vec::new(),
+                limits: Vec::new(),
+                symbols: Vec::new(),
+            },
+        }
+    }
+
+    /// Fields with their limits, up to a `)`.
+    fn list(&mut self, line: &mut Line) -> Result<(), Fault> {
+        loop {
+            let (name, place) = line.field_name()?;
+            if self.named(&name).is_some() {
+                return twice(place, &name);
+            }
+            self.limit(line, name, place)?;
+            if !line.passes(',') {
+                return line.expect(')', "or `,` after the field's limit");
+            }
+        }
+    }
+
+    /// Symbols up to the end of the line.
+    fn symbols(&mut self, line: &mut Line, letters: &[u8]) -> Result<(), Fault> {
+        while line.peek().is_some() {
+            self.places.symbols.push(line.place());
+            let symbol = match line.passes('{') {
+                true => self.field(line)?,
+                false => letters::symbol(line, letters)?,
+            };
+            self.template.symbols.push(symbol);
+        }
+        Ok(())
+    }
+
+    /// A field that is known, or one that is new with its limit, and a `}`.
+    fn field(&mut self, line: &mut Line) -> Result<Symbol, Fault> {
+        let (name, place) = line.field_name()?;
+        let number = match (self.named(&name), line.peek()) {
+            (Some(_), Some(next)) if next.is_ascii_digit() => return twice(line.place(), &name),
+            (Some(number), _) => number,
+            (None, Some('}')) => {
+                return fault_at(place, format!("`{name}` has no limit in this template: where it stands first, write `{{{name} 4}}` for a text of at most 4 letters"))
+            }
+            (None, _) => self.limit(line, name, place)?,
+        };
+        line.expect('}', "after the field")?;
+        Ok(Symbol::Field(number))
+    }
+
+    /// The limit of a new field, whose number is answered.
+    fn limit(&mut self, line: &mut Line, name: String, place: Place) -> Result<usize, Fault> {
+        line.peek();
+        let at = line.place();
+        let limit = line.limit(&name)?;
+        self.template.fields.push(Field { name, limit });
+        self.places.fields.push(place);
+        self.places.limits.push(at);
+        Ok(self.template.fields.len() - 1)
+    }
+
+    /// The number of a field.
+    fn named(&self, name: &str) -> Option<usize> {
+        let fields = &self.template.fields;
+        fields.iter().position(|field| field.name == name)
+    }
+}
+
+/// A field that is given its limit a second time.
+fn twice<T>(place: Place, name: &str) -> Result<T, Fault> {
+    fault_at(
+        place,
+        format!("`{name}` has a limit already in this template; where it stands again, write `{{{name}}}`"),
+    )
+}

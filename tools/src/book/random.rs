@@ -1,0 +1,76 @@
+//! Random books for tests, the same in every run.
+
+/// Numbers that look random (xorshift).
+pub struct Random(u64);
+
+impl Random {
+    pub fn new() -> Random {
+        Random(0x9E37_79B9_7F4A_7C15)
+    }
+
+    /// A number below another.
+    pub fn below(&mut self, most: usize) -> usize {
+        self.0 ^= self.0 << 13;
+        self.0 ^= self.0 >> 7;
+        self.0 ^= self.0 << 17;
+        (self.0 >> 16) as usize % most
+    }
+
+    /// The bytes of a book within the ranges: any letters, fields in any order, and fields that no symbol is.
+    pub fn book(&mut self) -> Vec<u8> {
+        let mut letters: Vec<u8> = (0..1 + self.below(8)).map(|_| self.letter()).collect();
+        letters.sort_unstable();
+        letters.dedup();
+        let mut book = b"TPB\x00\x01".to_vec();
+        book.push(letters.len() as u8);
+        book.extend(&letters);
+        let templates = 1 + self.below(16);
+        book.push(templates as u8);
+        for _ in 0..templates {
+            self.template(letters.len(), &mut book);
+        }
+        book
+    }
+
+    /// Any letter, and often one that is special in the text form, or that could be taken for a part of it.
+    fn letter(&mut self) -> u8 {
+        match self.below(2) {
+            0 => 33 + self.below(94) as u8,
+            _ => b"{}=#\\(),;-14\"'"[self.below(14)],
+        }
+    }
+
+    fn template(&mut self, letters: usize, book: &mut Vec<u8>) {
+        let limits: Vec<u8> = (0..self.below(4)).map(|_| self.below(9) as u8).collect();
+        let (mut symbols, mut wide) = (Vec::new(), 0);
+        for _ in 0..self.below(13) {
+            let (symbol, width) = match self.below(2) {
+                0 if !limits.is_empty() => {
+                    let field = self.below(limits.len());
+                    (128 + field as u8, limits[field])
+                }
+                _ => (self.below(letters) as u8, 1),
+            };
+            if wide + width <= 24 {
+                symbols.push(symbol);
+                wide += width;
+            }
+        }
+        book.push(limits.len() as u8);
+        book.extend(&limits);
+        book.push(symbols.len() as u8);
+        book.extend(&symbols);
+    }
+
+    /// Changes, cuts or lengthens bytes somewhere.
+    pub fn damage(&mut self, book: &mut Vec<u8>) {
+        let at = self.below(book.len());
+        match self.below(4) {
+            0 => book.truncate(at),
+            1 => book.push(self.below(256) as u8),
+            2 => book[at] = self.below(256) as u8,
+            // Near to what it was, so that it is often still a book.
+            _ => book[at] = book[at].wrapping_add(self.below(5) as u8).wrapping_sub(2),
+        }
+    }
+}
