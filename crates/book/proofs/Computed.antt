@@ -3,7 +3,6 @@
 use mathlib.Core.Path.{_≡_, refl}
 use mathlib.Core.List.{List, [], _∷_, _++_, map}
 use Prim.Native.Nat.{ℕ, _+_, _*_}
-use lib.ListN.{length}
 use Rattle.model.specs.Lists.{startsWith, same, each, from, keep, all, any}
 use Rattle.model.specs.Sheet.{letter, field, row, times, width}
 use Rattle.model.specs.Word.{spell, sameWord, equationHolds, constraintHolds, keeps, solves}

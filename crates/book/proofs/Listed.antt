@@ -1,14 +1,14 @@
 -- The list of clashing pairs: each is of two templates, the first below the second, that clash; every two that clash are there; and they stand in the
 -- order "by i then j", so that none is there twice. Assumes nothing.
-use mathlib.Core.Path.{_≡_, refl, sym, ap, subst, _∙_}
+use mathlib.Core.Path.{_≡_, refl, ap, _∙_}
 use mathlib.Core.Bool.{Bool, true, false}
 use mathlib.Core.List.{List, [], _∷_, _++_, map}
 use Prim.Native.Nat.{ℕ, zero, suc, _+_, _-_, _*_, _<_, _≤_}
 use native.Mathlib.Omega.{arith}
-use lib.ListN.{length, getD, length-map}
+use lib.ListN.{length, getD}
 use Rattle.model.specs.Lists.{each, from, upTo, when, keep, total, All}
-use Rattle.model.proofs.Lists.{by-test, weaken, at, from-at, append-in, map-in, map-out, from-out, each-in, each-same}
-use Rattle.model.proofs.Keeping.{keep-in, keep-out, from-in, below-in, loop-in, loop-out, keep-each, keep-map, keep-short, each-map, each-when, length-map-from, length-loop, total-grows, each-most}
+use Rattle.model.proofs.Lists.{by-test, weaken, at, append-in, map-in, map-out, from-out, each-in, each-same}
+use Rattle.model.proofs.Keeping.{keep-in, keep-out, from-in, below-in, loop-in, loop-out, keep-each, keep-short, length-map-from, length-loop, total-grows}
 use Rattle.model.proofs.Pieces.{each-each}
 use Rattle.book.specs.Book.{Book}
 use Rattle.book.specs.Pairs.{Pair, pairs, clash, clashing, pairBytes, listBytes, rowBytes, Precedes, by-first, by-second}

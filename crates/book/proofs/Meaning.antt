@@ -4,7 +4,7 @@ use mathlib.Core.Path.{_≡_, refl, sym, ap, subst, _∙_}
 use mathlib.Core.Bool.{true}
 use mathlib.Core.List.{List, [], _∷_, _++_, map}
 use mathlib.Core.Logic.{_↔_}
-use Prim.Native.Nat.{ℕ, suc, _<_, _≤_}
+use Prim.Native.Nat.{ℕ, _<_}
 use native.Mathlib.Omega.{arith}
 use lib.ListN.{length, getD, take, drop, take-append-drop}
 use Rattle.model.specs.Lists.{each, All}
@@ -62,8 +62,8 @@ module _ (k : Book) (ok : BookIn k) (i j : ℕ) (hi : i < length (k .templates))
     is-legal = texts-join (length (k .letters)) (t .limits) (u .limits) g h p q;
     equations-hold = (
       subst (λ w. SameWord (question k i j) w (spell (g ++ h) (map (numberedAfter (length (t .limits))) (u .symbols))))
-      (sym (spell-first g h (length (k .letters)) (length (t .limits)) (p .one-each) (t .symbols) (own-in k ok i hi .template-in .symbols)))
-      (subst (SameWord (question k i j) (spell g (t .symbols))) (sym (spell-second g h (length (t .limits)) (p .one-each) (u .symbols))) e),
+          (sym (spell-first g h (length (k .letters)) (length (t .limits)) (p .one-each) (t .symbols) (own-in k ok i hi .template-in .symbols)))
+          (subst (SameWord (question k i j) (spell g (t .symbols))) (sym (spell-second g h (length (t .limits)) (p .one-each) (u .symbols))) e),
       tt,
     );
     constraints-hold = tt;

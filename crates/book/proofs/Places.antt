@@ -1,13 +1,13 @@
 -- Where an accepted book's parts stand in its bytes. All of it is read off `encodeBook`, one part after another. Assumes nothing.
-use mathlib.Core.Path.{_≡_, refl, sym, ap, subst, _∙_}
-use mathlib.Core.List.{List, [], _∷_, _++_, map, append-assoc, append-nil}
-use Prim.Native.Nat.{ℕ, suc, _+_, _<_, _≤_}
+use mathlib.Core.Path.{_≡_, sym, ap, subst, _∙_}
+use mathlib.Core.List.{List, [], _∷_, _++_, map, append-nil}
+use Prim.Native.Nat.{ℕ, _+_, _<_, _≤_}
 use native.Mathlib.Nat.{add-zero}
 use native.Mathlib.Omega.{arith}
-use lib.ListN.{length, getD, take, drop, length-append, length-map}
+use lib.ListN.{length, getD, drop, length-append, length-map}
 use Rattle.model.specs.Lists.{each, Holds, Bytes}
 use Rattle.model.specs.Sheet.{symbolByte, byte, bytesOf}
-use Rattle.model.proofs.Places.{holds-fits, holds-at, holds-take, holds-first, holds-next, holds-from, each-at}
+use Rattle.model.proofs.Places.{holds-fits, holds-at, holds-first, holds-next, holds-from, each-at}
 use Rattle.book.specs.Book.{Template, Book, template, mark, encodeTemplate, encodeBook, bookOf, Admitted}
 use Rattle.book.proofs.Reading.{admitted-bytes}
 

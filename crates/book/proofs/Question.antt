@@ -1,14 +1,13 @@
 -- The question of two templates of a book within its ranges is a sheet within document 01's, so that its bytes are accepted as that sheet; and they are at
 -- most 49. Assumes nothing.
-use mathlib.Core.Path.{_≡_, refl, sym, ap, _∙_}
+use mathlib.Core.Path.{_≡_, refl}
 use mathlib.Core.List.{List, [], _∷_, _++_, map}
-use Prim.Native.Nat.{ℕ, suc, _+_, _<_, _≤_}
+use Prim.Native.Nat.{ℕ, _+_, _<_}
 use native.Mathlib.Omega.{arith}
-use lib.ListN.{length, getD, length-append, length-map}
-use Rattle.model.specs.Lists.{each, All}
-use Rattle.model.specs.Sheet.{Symbol, letter, field, cellsOf, width, symbolByte, accepted, read, encode, Accepted, sheetOf}
+use lib.ListN.{length, length-append, length-map}
+use Rattle.model.specs.Lists.{All}
+use Rattle.model.specs.Sheet.{Symbol, letter, field, cellsOf, width, accepted, read, encode}
 use Rattle.model.specs.Range.{SymbolIn, TemplateIn, InRange}
-use Rattle.model.specs.Range as range
 use Rattle.model.proofs.Lists.{append-in, weaken, map-in, at}
 use Rattle.model.proofs.Keeping.{second-at, first-at}
 use Rattle.model.proofs.Reading.{read-encode}

@@ -1,18 +1,18 @@
 -- Reading a book is right. `read-encode`: the bytes of a book within the ranges are read as that book. `accepted-encode`: accepted bytes are those of
 -- their book, which is within the ranges. `read-prefix`: the first 288 bytes decide. Assumes nothing.
 use mathlib.Core.Path.{_≡_, refl, sym, ap, _∙_}
-use mathlib.Core.Bool.{Bool, true, false, _&&_}
+use mathlib.Core.Bool.{true, _&&_}
 use mathlib.Core.List.{List, [], _∷_, _++_, map, append-assoc, append-nil}
-use Prim.Native.Nat.{ℕ, _+_, _-_, _*_, _<_, _≤_}
+use Prim.Native.Nat.{ℕ, _+_, _-_, _<_, _≤_}
 use native.Mathlib.Omega.{arith}
 use lib.Dec.{leb, eqb}
 use lib.ListN.{length, take, drop, length-map, length-append, length-take, length-drop, take-append-drop, List·getD-append}
 use lib.Seq.{take-all, drop-append-le, drop-cons}
 use borrow.Author.Tests.{le-leb, leb-true, leb-false, eqb-true}
-use Rattle.model.specs.Lists.{pick, between, startsWith, each, All, Bytes}
-use Rattle.model.specs.Sheet.{width, sixteen, symbolOf, symbolByte, Step, got, fault, must, letterByte, limitByte, templateByte, row, times, byte, bytesOf}
+use Rattle.model.specs.Lists.{between, startsWith, each, All, Bytes}
+use Rattle.model.specs.Sheet.{width, sixteen, symbolOf, symbolByte, Step, got, fault, letterByte, limitByte, templateByte, row, times, byte, bytesOf}
 use Rattle.model.specs.Range.{TemplateIn}
-use Rattle.model.proofs.Lists.{never, by-test, and-split, and-join, append-out}
+use Rattle.model.proofs.Lists.{by-test, and-split}
 use Rattle.model.proofs.Steps.{no-fault, same-got, went, held, longer, Within, within-got, within-more, within-must, within-then, within-times}
 use Rattle.model.proofs.Rows.{row-reads, row-exact, within-row}
 use Rattle.model.proofs.Faithful.{rest-bytes, Exact, Faithful, times-reads, times-exact}
@@ -182,8 +182,8 @@ module _ (xs : List ℕ) (y : Bytes xs) where
       let y2 = rest-bytes (a .value) (a .rest) (r .bytes) y1 .1 in
       let y3 = rest-bytes (d .value ∷ []) (d .rest) (n .bytes) y2 .1 in
       let t = times-exact (aTemplate (g .value)) encodeTemplate _ (template-faithful (g .value) (omega (arith, l .most))) (d .value) (d .rest) y3 (d .second) in
-      same-got (λ k zs. (xs ≡ length (k .letters) ∷ (k .letters ++ (length (k .templates) ∷ (each (k .templates) encodeTemplate ++ zs)))) × BookIn k) (f .second)
-      ( l .bytes ∙ rw (r .count, t .ok .0) (ap (λ ys. g .value ∷ ys) (r .bytes ∙ ap (λ ys. a .value ++ ys) (n .bytes ∙ ap (λ ys. d .value ∷ ys) (t .bytes)))),
+      same-got (λ k zs. (xs ≡ length (k .letters) ∷ (k .letters ++ (length (k .templates) ∷ (each (k .templates) encodeTemplate ++ zs)))) × BookIn k) (f .second) (
+        l .bytes ∙ rw (r .count, t .ok .0) (ap (λ ys. g .value ∷ ys) (r .bytes ∙ ap (λ ys. a .value ++ ys) (n .bytes ∙ ap (λ ys. d .value ∷ ys) (t .bytes)))),
         record {
           of-letters = (omega (arith, l .least, r .count), omega (arith, l .most, r .count));
           letters-in = letters-in-range 0 (a .value) (r .pass);

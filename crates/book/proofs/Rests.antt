@@ -1,6 +1,6 @@
 -- What is left after each part of a book's walk, without the values: what code that reads byte by byte needs of each definition. Assumes nothing.
 use mathlib.Core.Path.{_≡_, refl, sym, ap, _∙_}
-use mathlib.Core.Bool.{Bool, true, false}
+use mathlib.Core.Bool.{true, false}
 use mathlib.Core.List.{List, [], _∷_, map}
 use Prim.Native.Nat.{ℕ, _<_, _≤_}
 use native.Mathlib.Omega.{arith}
@@ -12,7 +12,7 @@ use Rattle.model.specs.Lists.{between, startsWith}
 use Rattle.model.specs.Sheet.{Step, got, fault, rest, Role, letterByte, limitByte, templateByte, row, times, symbolOf, width, sixteen, byte}
 use Rattle.model.proofs.Lists.{and-split}
 use Rattle.model.proofs.Rests.{found, rest-stops, rest-wrapped, row-value}
-use Rattle.book.specs.Book.{Book, Template, count, someSymbols, aTemplate, someTemplates, body, accepted, refused, mark, opens, ended, readBook}
+use Rattle.book.specs.Book.{Book, count, someSymbols, aTemplate, someTemplates, body, accepted, refused, mark, opens, ended, readBook}
 use Rattle.book.proofs.Reading.{count-exact}
 
 -- A count is the byte that stands there.

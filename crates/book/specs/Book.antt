@@ -2,7 +2,7 @@
 -- `encodeBook` the bytes of a book, and `BookIn` the ranges, stated of what a book says. Quotes are of document 02, and where a sheet's rule is meant of
 -- document 01.
 use mathlib.Core.Path.{_≡_}
-use mathlib.Core.Bool.{Bool, true, false, _&&_}
+use mathlib.Core.Bool.{Bool, _&&_}
 use mathlib.Core.List.{List, [], _∷_, _++_, map}
 use Prim.Native.Nat.{ℕ, _≤_}
 use lib.Dec.{leb, eqb}

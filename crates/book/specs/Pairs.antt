@@ -5,7 +5,7 @@ use Prim.Native.Nat.{ℕ, suc, _+_, _-_, _<_}
 use mathlib.Core.Path.{_≡_}
 use lib.ListN.{length}
 use Rattle.model.specs.Lists.{each, from, upTo, when, keep}
-use Rattle.model.specs.Sheet.{Symbol, letter, field, Equation, Sheet}
+use Rattle.model.specs.Sheet.{Symbol, letter, field, Sheet}
 use Rattle.model.specs.Word.{Substitution, Texts, spell, SameWord}
 use Rattle.model.specs.Solvable.{solvable}
 use Rattle.book.specs.Book.{Template, Book, template}

@@ -4,7 +4,7 @@ use scan::stretch;
 use scan::wide;
 ghost use mathlib.Core.Path.{_≡_};
 ghost use mathlib.Core.List.{map};
-ghost use Prim.Native.Nat.{_<_, _≤_};
+ghost use Prim.Native.Nat.{_<_};
 ghost use lib.ListN.{length, drop};
 ghost use Rattle.model.specs.Lists.{each, Holds};
 ghost use Rattle.model.specs.Sheet.{symbolByte};

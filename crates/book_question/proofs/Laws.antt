@@ -3,14 +3,12 @@ use mathlib.Core.Path.{_≡_, refl, sym, ap, ap₂, _∙_}
 use mathlib.Core.List.{List, [], _∷_, _++_, map, append-assoc, append-nil}
 use Prim.Native.Nat.{ℕ, _+_, _<_, _≤_}
 use native.Mathlib.Omega.{arith}
-use lib.Dec.{ltb}
 use lib.ListN.{length, length-append, length-map}
 use borrow.Author.Tests.{lt-ltb, le-ltb}
 use Rattle.model.specs.Lists.{each, All}
-use Rattle.model.specs.Sheet.{Symbol, letter, field, symbolOf, symbolByte, encodeEquation, header, encode}
+use Rattle.model.specs.Sheet.{Symbol, letter, field, symbolByte, encodeEquation, header, encode}
 use Rattle.model.specs.Range.{SymbolIn}
 use Rattle.model.proofs.Lists.{weaken, map-in}
-use Rattle.model.proofs.Keeping.{map-map}
 use Rattle.model.proofs.Sections.{symbol-again}
 use Rattle.book.specs.Book.{Template, Book, template, OwnIn, BookIn}
 use Rattle.book.specs.Pairs.{numberedAfter, asked, question}

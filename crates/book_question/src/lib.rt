@@ -46,11 +46,7 @@ fn put_head(buf: &mut [u8], letters: &[u8], left: &[u8], right: &[u8]) -> usize
 {
     let fields = left.len() + right.len();
     let a = put(buf, 0, b"TPL\x00\x01");
-    let b = put(
-        buf,
-        a,
-        &[letters.len() as u8, fields as u8, 1, 0],
-    );
+    let b = put(buf, a, &[letters.len() as u8, fields as u8, 1, 0]);
     let c = put(buf, b, letters);
     let d = put(buf, c, left);
     put(buf, d, right)

@@ -108,13 +108,7 @@ fn template(book: &[u8], letters: u8, at: usize) -> Walk
             match row(book, Role::Limit, a, wide(fields)) {
                 Progress::Stopped(_) => Walk::Stopped,
                 Progress::At(e) => {
-                    symbols(
-                        book,
-                        letters,
-                        fields,
-                        stretch(book, a, wide(fields)),
-                        e,
-                    )
+                    symbols(book, letters, fields, stretch(book, a, wide(fields)), e)
                 }
             }
         }

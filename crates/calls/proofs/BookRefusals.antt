@@ -3,22 +3,22 @@
 use mathlib.Core.Path.{_≡_, refl, sym, ap, _∙_}
 use mathlib.Core.Bool.{Bool, true, false, _&&_}
 use mathlib.Core.List.{List, [], _∷_, _++_, map}
-use Prim.Native.Nat.{ℕ, suc, _+_, _≤_}
+use Prim.Native.Nat.{ℕ, _+_}
 use native.Mathlib.Numerals.{add-one}
 use native.Mathlib.Omega.{arith}
 use lib.Dec.{leb, ltb, eqb}
 use lib.ListN.{length, take, drop, drop-of-length-le}
 use lib.Seq.{drop-cons}
 use borrow.Author.Tests.{ltb-true, ltb-false, leb-true, leb-false}
-use Rattle.model.specs.Lists.{pick, between, startsWith}
-use Rattle.model.specs.Sheet.{Step, got, fault, _then_, must, letterByte, limitByte, templateByte, width, row, byte, sixteen}
+use Rattle.model.specs.Lists.{pick, startsWith}
+use Rattle.model.specs.Sheet.{Step, got, fault, _then_, letterByte, limitByte, templateByte, width, byte, sixteen}
 use Rattle.book.specs.Book as book
-use Rattle.book.specs.Book.{Book, Template, count, someSymbols, aTemplate, someTemplates, body, opens, ended, readBook, bookOf}
+use Rattle.book.specs.Book.{Book, count, someSymbols, aTemplate, someTemplates, body, opens, ended, readBook, bookOf}
 use Rattle.book.specs.Pairs.{listBytes}
-use Rattle.calls.specs.Calls.{Answer, refused, finished, require, ofBook, listValues, comparingOf, comparing}
-use Rattle.calls.specs.Rules.{Rule, _asks_, rowRules, severalRules, past, symbolsAt, countRules, symbolsRules, templateRules, templateBytes, templatesAt, bookEnd, bodyRules, asBook, bookRules, comparingRules}
+use Rattle.calls.specs.Calls.{refused, ofBook, listValues, comparingOf, comparing}
+use Rattle.calls.specs.Rules.{Rule, _asks_, symbolsAt, countRules, symbolsRules, templateRules, templateBytes, templatesAt, bookEnd, bodyRules, asBook, bookRules, comparingRules}
 use Rattle.model.proofs.Lists.{by-test}
-use Rattle.calls.proofs.Ordered.{inOrder, order-append, order-through, kept-goes, first-fails, Ordered, ordered-after, Follows, follows-from, follows-then, follows-wrapped, follows-got, follows-must}
+use Rattle.calls.proofs.Ordered.{inOrder, order-append, order-through, kept-goes, first-fails, Ordered, ordered-after, Follows, follows-from, follows-wrapped, follows-got, follows-must}
 use Rattle.calls.proofs.FirstRefusals.{row-then, several-follow}
 
 module _ (b : List ℕ) where
@@ -86,16 +86,16 @@ module _ (b : List ℕ) where
       let walked = body-follows in
       let k : Book = walked .value in
       let last = (41 asks leb (length b) (bookEnd b)) ∷ [] in
-      let first = (40 asks leb 5 (length b)) ∷ (40 asks startsWith book.mark b) ∷ (40 asks eqb (sixteen (byte b 3) (byte b 4)) 1) ∷ [] in
-      ( k,
+      let first = (40 asks leb 5 (length b)) ∷ (40 asks startsWith book.mark b) ∷ (40 asks eqb (sixteen (byte b 3) (byte b 4)) 1) ∷ [] in (
+        k,
         three-tests (leb 5 (length b)) (startsWith book.mark b) (eqb (sixteen (byte b 3) (byte b 4)) 1) (ended (body (drop 5 b))) book.refused
-        ∙ ap (inOrder book.refused first)
-        (ap ended (walked .is)
-        ∙ order-through ended fault (λ n. book.refused 41) (λ n. refl) (bodyRules b) (got k (drop (bookEnd b) b))
-        ∙ as-book (bodyRules b) (ended (got k (drop (bookEnd b) b)))
-        ∙ ap (inOrder book.refused (map asBook (bodyRules b))) (ended-follows k (bookEnd b))
-        ∙ sym (order-append book.refused (map asBook (bodyRules b)) last (book.accepted k)))
-        ∙ sym (order-append book.refused first (map asBook (bodyRules b) ++ last) (book.accepted k)),
+            ∙ ap (inOrder book.refused first)
+            (ap ended (walked .is)
+            ∙ order-through ended fault (λ n. book.refused 41) (λ n. refl) (bodyRules b) (got k (drop (bookEnd b) b))
+            ∙ as-book (bodyRules b) (ended (got k (drop (bookEnd b) b)))
+            ∙ ap (inOrder book.refused (map asBook (bodyRules b))) (ended-follows k (bookEnd b))
+            ∙ sym (order-append book.refused (map asBook (bodyRules b)) last (book.accepted k)))
+            ∙ sym (order-append book.refused first (map asBook (bodyRules b) ++ last) (book.accepted k)),
       )
 
 pub comparing-ordered : (b : List ℕ) (room : ℕ) → Ordered (comparingRules b room) (comparing b room)

@@ -12,7 +12,7 @@ use Rattle.model.specs.Sheet.{Step, got, fault}
 use Rattle.book.specs.Book as book
 use Rattle.book.specs.Book.{Book, body, opens, ended, readBook, bookIn, bookOf, Admitted}
 use Rattle.book.specs.Pairs.{clashing, listBytes}
-use Rattle.calls.specs.Calls.{Answer, refused, finished, require, written, decision, following, Decides, ofBook, listValues, comparingOf, comparing}
+use Rattle.calls.specs.Calls.{refused, finished, written, decision, following, Decides, ofBook, listValues, comparingOf, comparing}
 use Rattle.model.proofs.Lists.{by-test}
 use Rattle.book.proofs.Reading.{read-prefix, accepted-encode}
 use Rattle.book.proofs.Listed.{clashing-few}

@@ -12,7 +12,7 @@ use Rattle.model.specs.Sheet.{Sheet, Symbol, symbolOf, width, sixteen, Role, le
 use Rattle.model.specs.Word.{solves}
 use Rattle.model.specs.Filling.{filling, substitutionIn}
 use Rattle.book.specs.Book as book
-use Rattle.book.specs.Book.{Book, bookOf}
+use Rattle.book.specs.Book.{bookOf}
 use Rattle.book.specs.Pairs.{listBytes}
 use Rattle.formula.specs.Clause.{ids}
 use Rattle.formula.specs.Numbering.{variables}

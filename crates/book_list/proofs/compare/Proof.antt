@@ -1,5 +1,5 @@
 -- `book_list::compare` meets its contract: the refusals of the book, or what comparing an accepted book's templates comes to. Assumes nothing.
-use mathlib.Core.Path.{ap, subst, _∙_}
+use mathlib.Core.Path.{subst}
 use lib.ListN.{length}
 use borrow.Author.Needs.{needs}
 use Rattle.calls.proofs.Comparing.{comparing-book, compare-refused}

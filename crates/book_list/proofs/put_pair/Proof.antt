@@ -1,5 +1,5 @@
 -- `book_list::put_pair` meets its contract: two bytes where the templates clash, and else nothing. Assumes nothing.
-use mathlib.Core.Path.{_≡_, sym, ap, subst, _∙_}
+use mathlib.Core.Path.{_≡_, sym, subst, _∙_}
 use mathlib.Core.Bool.{true}
 use mathlib.Core.List.{[], _∷_}
 use Prim.Native.Nat.{_+_, _<_, _≤_}

@@ -1,5 +1,5 @@
 -- `book_list::put_row` meets its contract. The loop's invariant: the pairs of i and the templates before j have been written. Assumes nothing.
-use mathlib.Core.Path.{_≡_, sym, ap, subst}
+use mathlib.Core.Path.{_≡_, sym, subst}
 use Prim.Native.Nat.{_+_, _-_, _≤_, _<_}
 use native.Mathlib.Omega.{arith}
 use lib.ListN.{length}

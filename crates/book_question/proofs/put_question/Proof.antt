@@ -60,8 +60,8 @@ module _ (c : tie.Start) where
       let t = t-in k (c .pre .0 .1) (c .args .i) (c .args .j) (c .pre .1) (c .pre .2) in
       let u = u-in k (c .pre .0 .1) (c .args .i) (c .args .j) (c .pre .1) (c .pre .2) in
       let n = length-map (template k (c .args .i) .symbols) symbolByte in
-      let m = length-map (template k (c .args .j) .symbols) symbolByte in
-      ( t .few,
+      let m = length-map (template k (c .args .j) .symbols) symbolByte in (
+        t .few,
         symbols-small (length (k .letters)) _ (omega (arith, c .pre .0 .1 .of-letters)) (u .few) (template k (c .args .j) .symbols) (u .template-in .symbols),
         omega (arith, t .template-in .count),
         omega (arith, u .template-in .count),

@@ -1,6 +1,6 @@
 -- `book_read::count` meets its contract: each return by the tests that led there. Assumes nothing.
-use mathlib.Core.Path.{sym, ap, refl, _∙_}
-use Prim.Native.Nat.{suc, _+_}
+use mathlib.Core.Path.{sym, refl, _∙_}
+use Prim.Native.Nat.{suc}
 use native.Mathlib.Numerals.{add-one}
 use native.Mathlib.Omega.{arith}
 use lib.ListN.{drop, getD, drop-of-length-le}

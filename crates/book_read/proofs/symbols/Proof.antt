@@ -1,5 +1,5 @@
 -- `book_read::symbols` meets its contract: the count, the row of symbols, the width. Assumes nothing.
-use mathlib.Core.Path.{_≡_, refl, sym, ap, _∙_}
+use mathlib.Core.Path.{_≡_, sym, ap, _∙_}
 use mathlib.Core.Bool.{Bool, true, false}
 use mathlib.Core.List.{map}
 use Prim.Native.Nat.{_+_, _≤_}
@@ -105,10 +105,11 @@ returns c =
     let a = at-a at-e in
     let s = start a in
     let b = s .args .book .now in
-    let ys = drop (a .a .given .0 .0) b in
-    (41,
-     symbols-wide (s .args .letters) (s .args .fields) (s .args .limits .now) (drop (s .args .at) b) (s .pre .0) (at-e .before .before .before .wide .result) ys (symbol-count (at-e .before .before .before)) (counted a .0)
-     (drop (at-e .e .given .0 .0) b) (row-read at-e) (measured (c .before) false (lt-leb (c .before .width-of .result) 24 (c .if1 .taken))))
+    let ys = drop (a .a .given .0 .0) b in (
+      41,
+      symbols-wide (s .args .letters) (s .args .fields) (s .args .limits .now) (drop (s .args .at) b) (s .pre .0) (at-e .before .before .before .wide .result) ys (symbol-count (at-e .before .before .before)) (counted a .0)
+          (drop (at-e .e .given .0 .0) b) (row-read at-e) (measured (c .before) false (lt-leb (c .before .width-of .result) 24 (c .if1 .taken))),
+    )
 
 returns-2 : tie.Need-returns-2
 returns-2 c =
@@ -125,10 +126,11 @@ returns-3 c =
     let s = start a in
     let b = s .args .book .now in
     let ys = drop (a .a .given .0 .0) b in
-    let n = at-row .before .wide .result in
-    (numberOf (c .enum-told2 .given .0 .0),
-     symbols-stop (s .args .letters) (s .args .fields) (s .args .limits .now) (drop (s .args .at) b) (s .pre .0) n ys (symbol-count (at-row .before)) (counted a .0)
-     (fault-told b (row (templateByte (s .args .letters) (s .args .fields)) 0 n ys) (at-row .row .ensures .0) (c .enum-told2 .given .1)))
+    let n = at-row .before .wide .result in (
+      numberOf (c .enum-told2 .given .0 .0),
+      symbols-stop (s .args .letters) (s .args .fields) (s .args .limits .now) (drop (s .args .at) b) (s .pre .0) n ys (symbol-count (at-row .before)) (counted a .0)
+          (fault-told b (row (templateByte (s .args .letters) (s .args .fields)) 0 n ys) (at-row .row .ensures .0) (c .enum-told2 .given .1)),
+    )
 
 returns-4 : tie.Need-returns-4
 returns-4 c =
@@ -136,10 +138,11 @@ returns-4 c =
     let a = at-a at-e in
     let s = start a in
     let b = s .args .book .now in
-    let ys = drop (a .a .given .0 .0) b in
-    (symbols-left (s .args .letters) (s .args .fields) (s .args .limits .now) (drop (s .args .at) b) (s .pre .0) (at-e .before .before .before .wide .result) ys (symbol-count (at-e .before .before .before)) (counted a .0)
-     (drop (at-e .e .given .0 .0) b) (row-read at-e) (measured (c .before) true (le-leb (c .before .width-of .result) 24 (omega (arith, c .if1 .left)))),
-     omega (arith, row-end at-e))
+    let ys = drop (a .a .given .0 .0) b in (
+      symbols-left (s .args .letters) (s .args .fields) (s .args .limits .now) (drop (s .args .at) b) (s .pre .0) (at-e .before .before .before .wide .result) ys (symbol-count (at-e .before .before .before)) (counted a .0)
+          (drop (at-e .e .given .0 .0) b) (row-read at-e) (measured (c .before) true (le-leb (c .before .width-of .result) 24 (omega (arith, c .if1 .left)))),
+      omega (arith, row-end at-e),
+    )
 
 pub symbols-spec : {M : Type 1} → statement M
 symbols-spec =

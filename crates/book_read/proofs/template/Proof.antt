@@ -1,5 +1,5 @@
 -- `book_read::template` meets its contract: the field count, the limits, the symbols. Assumes nothing.
-use mathlib.Core.Path.{_≡_, refl, sym, ap, _∙_}
+use mathlib.Core.Path.{_≡_, sym, ap, _∙_}
 use Prim.Native.Nat.{_+_, _≤_}
 use native.Mathlib.Omega.{arith}
 use lib.ListN.{length, getD, take, drop, length-take, length-drop}
@@ -99,10 +99,11 @@ returns-2 c =
     let s = start a .args in
     let b = s .book .now in
     let ys = drop (a .a .given .0 .0) b in
-    let n = at-row .before .wide .result in
-    (numberOf (c .enum-told2 .given .0 .0),
-     template-stops (s .letters) (drop (s .at) b) n ys (field-count (at-row .before)) (counted a .0)
-     (fault-told b (row limitByte 0 n ys) (at-row .row .ensures .0) (c .enum-told2 .given .1)))
+    let n = at-row .before .wide .result in (
+      numberOf (c .enum-told2 .given .0 .0),
+      template-stops (s .letters) (drop (s .at) b) n ys (field-count (at-row .before)) (counted a .0)
+          (fault-told b (row limitByte 0 n ys) (at-row .row .ensures .0) (c .enum-told2 .given .1)),
+    )
 
 returns-3 : tie.Need-returns-3
 returns-3 c =
@@ -118,7 +119,7 @@ returns-3 c =
     came-same b (someSymbols (s .letters) (c .before .stretch .result .now) (drop e b)) (aTemplate (s .letters) (drop (s .at) b)) (c .symbols .result)
     (ap (λ xs. rest (someSymbols (s .letters) xs (drop e b))) limits
     ∙ sym (template-left (s .letters) (drop (s .at) b) n (drop k b) (field-count (at-e .before .before .before)) (counted a .0) (drop e b)
-      (at-told b (row limitByte 0 n (drop k b)) (at-e .before .before .row .ensures .0) (at-e .e .given .1))))
+    (at-told b (row limitByte 0 n (drop k b)) (at-e .before .before .row .ensures .0) (at-e .e .given .1))))
     (c .symbols .ensures)
 
 pub template-spec : {M : Type 1} → statement M

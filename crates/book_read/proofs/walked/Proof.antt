@@ -71,10 +71,11 @@ returns-2 c =
     let a = at-row .before .before .before .before in
     let b = start a .args .book .now in
     let ys = drop (a .a .given .0 .0) b in
-    let n = at-row .before .wide .result in
-    (numberOf (c .enum-told2 .given .0 .0),
-     letters-stop (drop 5 b) n ys (letter-count (at-row .before)) (counted a .0)
-     (fault-told b (row letterByte 0 n ys) (at-row .row .ensures .0) (c .enum-told2 .given .1)))
+    let n = at-row .before .wide .result in (
+      numberOf (c .enum-told2 .given .0 .0),
+      letters-stop (drop 5 b) n ys (letter-count (at-row .before)) (counted a .0)
+          (fault-told b (row letterByte 0 n ys) (at-row .row .ensures .0) (c .enum-told2 .given .1)),
+    )
 
 returns-3 : tie.Need-returns-3
 returns-3 c =
@@ -88,7 +89,7 @@ returns-3 c =
     let l = getD b 5 0 in
     came-same b (someTemplates l (drop e b)) (body (drop 5 b)) (c .after-letters .result)
     (sym (letters-left (drop 5 b) l ys (sym (first-left b 5)) (counted a .0) (drop e b)
-      (rw (at-row .before .wide .ensures .0) at (at-told b (row letterByte 0 n ys) (at-row .row .ensures .0) (at-e .e .given .1)))))
+    (rw (at-row .before .wide .ensures .0) at (at-told b (row letterByte 0 n ys) (at-row .row .ensures .0) (at-e .e .given .1)))))
     (c .after-letters .ensures)
 
 pub walked-spec : {M : Type 1} → statement M

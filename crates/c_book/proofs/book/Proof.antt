@@ -1,12 +1,12 @@
 -- `c_book::book` meets its contract: what comparing answers, handed over; a list has few pairs. Assumes nothing.
-use mathlib.Core.Path.{_≡_, refl, sym, ap, subst, _∙_}
+use mathlib.Core.Path.{_≡_, refl, sym, ap, _∙_}
 use mathlib.Core.List.{[], _∷_}
 use Prim.Native.Nat.{_≤_}
 use native.Mathlib.Omega.{arith}
 use lib.ListN.{length}
 use mir.Syntax.{w64}
 use mir.ValLaws.{toZ-pos}
-use Rattle.calls.specs.Calls.{Answer, finished, comparing, Decides}
+use Rattle.calls.specs.Calls.{Answer, comparing, Decides}
 use Rattle.calls.proofs.Comparing.{few}
 use Rattle.parts.proofs.Known.{lent-bytes}
 use Rattle.book_list.specs.Answer.{compared}
