@@ -32,7 +32,7 @@ static const struct { int constant, number; } numbers[] = {
     { TPL_REPLY_SIZE, 30 }, { TPL_LINE_END, 31 }, { TPL_UNKNOWN_LINE, 32 }, { TPL_STATUS_LINE, 33 }, { TPL_ZERO, 34 },
     { TPL_VARIABLE_NUMBER, 35 }, { TPL_VARIABLE_TWICE, 36 }, { TPL_PLACE_VALUE, 37 }, { TPL_LETTER_AFTER_BLANK, 38 },
     { TPL_NO_CLASH, 39 },
-    { TPL_BOOK_MARK, 40 }, { TPL_BOOK, 41 }, { TPL_BUFFER_BELOW_LIST, 42 },
+    { TPL_BOOK_MARK, 40 }, { TPL_BOOK_FAULT, 41 }, { TPL_BUFFER_BELOW_LIST, 42 },
     { TPL_LETTERS_MOST, 8 }, { TPL_FIELDS_MOST, 6 }, { TPL_PAIRS_MOST, 4 }, { TPL_RULES_MOST, 4 },
     { TPL_SYMBOLS_MOST, 12 }, { TPL_FIELD_SYMBOL, 128 },
     { TPL_FIELD_PLACES, 8 }, { TPL_FIELD_BYTES, 9 }, { TPL_FILLING_MOST, 9 * 6 }, { TPL_PAST_LENGTH, 255 },
@@ -201,8 +201,8 @@ static const uint8_t book[BOOK_BYTES + 1] = { 'T', 'P', 'B', 0, 1, 2, 'A', 'B', 
 /* Books that are refused, each a change of one byte of that one. */
 static const struct { enum tpl_refusal refusal; size_t offset; uint8_t byte; } damaged[9] = {
     { TPL_BOOK_MARK, 2, 'L' }, { TPL_BOOK_MARK, 3, 1 }, { TPL_BOOK_MARK, 4, 2 },
-    { TPL_BOOK, 5, TPL_LETTERS_MOST + 1 }, { TPL_BOOK, 7, 'A' }, { TPL_BOOK, 8, TPL_TEMPLATES_MOST + 1 },
-    { TPL_BOOK, 9, TPL_TEMPLATE_FIELDS_MOST + 1 }, { TPL_BOOK, 10, TPL_FIELD_PLACES + 1 }, { TPL_BOOK, 13, TPL_FIELD_SYMBOL + 1 }
+    { TPL_BOOK_FAULT, 5, TPL_LETTERS_MOST + 1 }, { TPL_BOOK_FAULT, 7, 'A' }, { TPL_BOOK_FAULT, 8, TPL_TEMPLATES_MOST + 1 },
+    { TPL_BOOK_FAULT, 9, TPL_TEMPLATE_FIELDS_MOST + 1 }, { TPL_BOOK_FAULT, 10, TPL_FIELD_PLACES + 1 }, { TPL_BOOK_FAULT, 13, TPL_FIELD_SYMBOL + 1 }
 };
 
 static void listing(void) {
@@ -216,10 +216,10 @@ static void listing(void) {
         expect(tpl_book(changed, BOOK_BYTES, list, sizeof list) == -(int64_t)damaged[i].refusal, "a faulty book is refused with its number");
     }
     expect(tpl_book(book, 4, list, sizeof list) == -TPL_BOOK_MARK, "four bytes are refused with 40");
-    expect(tpl_book(book, 5, list, sizeof list) == -TPL_BOOK, "five bytes are refused with 41");
+    expect(tpl_book(book, 5, list, sizeof list) == -TPL_BOOK_FAULT, "five bytes are refused with 41");
     expect(tpl_book(sheet, 15, list, sizeof list) == -TPL_BOOK_MARK, "P is no book");
-    expect(tpl_book(book, BOOK_BYTES - 1, list, 0) == -TPL_BOOK, "41 comes before 42");
-    expect(tpl_book(book, BOOK_BYTES + 1, list, sizeof list) == -TPL_BOOK, "a byte left over is refused with 41");
+    expect(tpl_book(book, BOOK_BYTES - 1, list, 0) == -TPL_BOOK_FAULT, "41 comes before 42");
+    expect(tpl_book(book, BOOK_BYTES + 1, list, sizeof list) == -TPL_BOOK_FAULT, "a byte left over is refused with 41");
     expect(tpl_book(book, BOOK_BYTES, list, 3) == -TPL_BUFFER_BELOW_LIST, "three bytes for two pairs are refused with 42");
     expect(memcmp(list, before, sizeof list) == 0, "a refusal leaves the list's buffer");
     expect(tpl_book(book, BOOK_BYTES, list, 4) == 2, "four bytes are enough for two pairs");
@@ -249,7 +249,7 @@ static void largest_book(void) {
         large[n + 7] = TPL_FIELD_SYMBOL + 2;
     }
     expect(n == TPL_BOOK_MOST, "a largest book has TPL_BOOK_MOST bytes");
-    expect(tpl_book(large, TPL_BOOK_MOST + 1, list, sizeof list) == -TPL_BOOK, "a byte more is refused with 41");
+    expect(tpl_book(large, TPL_BOOK_MOST + 1, list, sizeof list) == -TPL_BOOK_FAULT, "a byte more is refused with 41");
     expect(tpl_book(large, TPL_BOOK_MOST, list, TPL_LIST_MOST - 1) == -TPL_BUFFER_BELOW_LIST, "one byte less for a list is refused with 42");
     expect(tpl_book(large, TPL_BOOK_MOST, list, sizeof list) == TPL_LIST_MOST / 2, "all templates of a largest book clash");
     for (uint8_t i = 0; i < TPL_TEMPLATES_MOST; i++) {

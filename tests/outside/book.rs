@@ -68,7 +68,7 @@ impl Fault {
     pub fn refusal(self) -> Refusal {
         match self {
             Fault::Short | Fault::Mark | Fault::Version => Refusal::BookMark,
-            _ => Refusal::Book,
+            _ => Refusal::BookFault,
         }
     }
 

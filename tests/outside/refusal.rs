@@ -38,6 +38,6 @@ pub enum Refusal {
     LetterAfterBlank = 38,
     NoClash = 39,
     BookMark = 40,
-    Book = 41,
+    BookFault = 41,
     BufferBelowList = 42,
 }

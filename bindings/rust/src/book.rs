@@ -212,7 +212,7 @@ mod tests {
         assert_eq!(book.template(15).limits.len(), TEMPLATE_FIELDS_MOST);
         assert!(book.clashes().is_empty());
         bytes.push(0);
-        assert_eq!(Book::read(bytes), Err(Refusal::Book));
+        assert_eq!(Book::read(bytes), Err(Refusal::BookFault));
     }
 
     #[test]
@@ -221,7 +221,7 @@ mod tests {
         assert_eq!(Book::read(*b"TPB\x00"), Err(Refusal::BookMark));
         assert_eq!(Book::read(*b"TPL\x00\x01"), Err(Refusal::BookMark));
         assert_eq!(Book::read(*b"TPB\x00\x02"), Err(Refusal::BookMark));
-        assert_eq!(Book::read(*b"TPB\x00\x01"), Err(Refusal::Book));
+        assert_eq!(Book::read(*b"TPB\x00\x01"), Err(Refusal::BookFault));
     }
 
     #[test]

@@ -239,8 +239,8 @@ mod tests {
         marked[2] = b'L';
         assert_eq!(book(&marked, &mut []), Err(Refusal::BookMark));
         assert_eq!(book(&BOOK[..4], &mut []), Err(Refusal::BookMark));
-        assert_eq!(book(&BOOK[..5], &mut []), Err(Refusal::Book));
-        assert_eq!(book(&BOOK[..BOOK.len() - 1], &mut []), Err(Refusal::Book));
+        assert_eq!(book(&BOOK[..5], &mut []), Err(Refusal::BookFault));
+        assert_eq!(book(&BOOK[..BOOK.len() - 1], &mut []), Err(Refusal::BookFault));
         assert_eq!(book(&BOOK, &mut []), Err(Refusal::BufferBelowList));
     }
 

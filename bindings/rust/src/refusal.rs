@@ -78,7 +78,7 @@ pub enum Refusal {
     /// 40: the book has fewer than 5 bytes, or another mark or version.
     BookMark = 40,
     /// 41: something else is wrong with the book.
-    Book = 41,
+    BookFault = 41,
     /// 42: the buffer is shorter than the list.
     BufferBelowList = 42,
 }
@@ -122,7 +122,7 @@ impl Refusal {
         Refusal::LetterAfterBlank,
         Refusal::NoClash,
         Refusal::BookMark,
-        Refusal::Book,
+        Refusal::BookFault,
         Refusal::BufferBelowList,
     ];
 
@@ -188,7 +188,7 @@ impl Refusal {
             Refusal::LetterAfterBlank => "the reply puts a letter after a blank in a field",
             Refusal::NoClash => "the filling that the reply gives does not clash",
             Refusal::BookMark => "the book does not start with the three bytes TPB and the version 1 in two bytes",
-            Refusal::Book => {
+            Refusal::BookFault => {
                 "a count, letter, limit, symbol or width of the book breaks its range, or bytes are missing or left over"
             }
             Refusal::BufferBelowList => {

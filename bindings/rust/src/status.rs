@@ -73,7 +73,7 @@ mod tests {
             ..SAMPLE
         };
         assert_eq!(of_book.outcome(-40), Err(Refusal::BookMark));
-        assert_eq!(of_book.outcome(-41), Err(Refusal::Book));
+        assert_eq!(of_book.outcome(-41), Err(Refusal::BookFault));
         assert_eq!(of_book.outcome(-27), Err(Refusal::BufferBelowFilling));
     }
 

@@ -1,8 +1,9 @@
--- Books, computed. One is read in full, with parts that differ from each other: what stands where. Damaged books, most with two faults at once, with the
--- refusal that is given. The question of two templates, and the pairs of templates that clash. Assumes nothing.
+-- Books, computed. One is read in full, with parts that differ from each other: what stands where; and the longest there is. Damaged books with the refusal that
+-- is given. The questions of two templates, and the pairs of templates that clash. Assumes nothing.
 use mathlib.Core.Path.{_≡_, refl}
 use mathlib.Core.List.{List, [], _∷_, _++_, map}
 use Prim.Native.Nat.{ℕ, _+_, _*_}
+use lib.ListN.{length}
 use Rattle.model.specs.Lists.{startsWith, same, each, from, keep, all, any}
 use Rattle.model.specs.Sheet.{letter, field, row, times, width}
 use Rattle.model.specs.Word.{spell, sameWord, equationHolds, constraintHolds, keeps, solves}
@@ -14,7 +15,7 @@ use Rattle.book.specs.Pairs.{asked, question, Pair, pairs, clashing, lis
 abbrev pub book : List ℕ → List ℕ
 book xs = mark ++ (0 ∷ 1 ∷ xs)
 
--- Three templates over A and B: A, a field of limit 1, A; a field of limit 2 twice, beside one that stands nowhere; nothing.
+-- Three templates over A and B: A, a field of limit 1, A; a field of limit 2, B, the same field, beside one that stands nowhere; nothing.
 abbrev pub three : Book
 three = record {
   letters = 65 ∷ 66 ∷ [];
@@ -48,6 +49,16 @@ pub asked-in-full : question three 0 1 ≡ record {
 }
 unfolding asked
 asked-in-full = refl
+
+-- and with two fields before it field 0 of the first template is field 2
+pub asked-the-other-way : question three 1 0 ≡ record {
+  letters = 65 ∷ 66 ∷ [];
+  limits = 0 ∷ 2 ∷ 1 ∷ [];
+  equations = record { left = field 1 ∷ letter 1 ∷ field 1 ∷ []; right = letter 0 ∷ field 2 ∷ letter 0 ∷ [] } ∷ [];
+  constraints = [];
+}
+unfolding asked
+asked-the-other-way = refl
 
 -- "by i then j", i below j
 pub pairs-of-three : pairs 3 ≡ record { first = 0; second = 1 } ∷ record { first = 0; second = 2 } ∷ record { first = 1; second = 2 } ∷ []
@@ -134,6 +145,20 @@ damaged =
 pub refusals : map (λ (c : Case). readBook (c .bytes)) damaged ≡ map (λ (c : Case). refused (c .first)) damaged
 unfolding startsWith row times width each from count someSymbols aTemplate someTemplates body opens readBook
 refusals = refl
+
+-- the longest book, 287 bytes: 8 letters, 16 templates, 3 fields, 12 symbols
+abbrev longest : List ℕ
+longest = book ((8 ∷ 65 ∷ 66 ∷ 67 ∷ 68 ∷ 69 ∷ 70 ∷ 71 ∷ 72 ∷ 16 ∷ []) ++ each (from 0 16) (λ i. 3 ∷ 8 ∷ 7 ∷ 6 ∷ 12 ∷ 128 ∷ 0 ∷ 1 ∷ 2 ∷ 3 ∷ 4 ∷ 5 ∷ 6 ∷ 7 ∷ 130 ∷ 0 ∷ 0 ∷ []))
+
+pub longest-accepted : (length longest ≡ 287) × (readBook longest ≡ accepted (record {
+  letters = 65 ∷ 66 ∷ 67 ∷ 68 ∷ 69 ∷ 70 ∷ 71 ∷ 72 ∷ [];
+  templates = each (from 0 16) (λ i. record {
+    limits = 8 ∷ 7 ∷ 6 ∷ [];
+    symbols = field 0 ∷ letter 0 ∷ letter 1 ∷ letter 2 ∷ letter 3 ∷ letter 4 ∷ letter 5 ∷ letter 6 ∷ letter 7 ∷ field 2 ∷ letter 0 ∷ letter 0 ∷ [];
+  } ∷ []);
+}))
+unfolding startsWith row times width each from count someSymbols aTemplate someTemplates body opens readBook
+longest-accepted = (refl, refl)
 
 -- the widest template of all is no fault: 24
 pub not-too-wide : readBook (book (1 ∷ 65 ∷ 1 ∷ 1 ∷ 8 ∷ 3 ∷ 128 ∷ 128 ∷ 128 ∷ [])) ≡ accepted (record {

@@ -94,6 +94,14 @@ pub listed-in-order : (k : Book) (d : Pair) (m n : ℕ) → m < n → n < length
 unfolding clashing
 listed-in-order k = sorted-at (clashing k) (sorted-keep (λ p. clash k (p .first) (p .second)) (pairs (length (k .templates))) (pairs-sorted (length (k .templates))))
 
+-- none precedes itself, so that none stands there twice
+pub precedes-another : (p q : Pair) → Precedes p q → p ≡ q → ⊥
+precedes-another p q (by-first l) e = let m = ap (λ (r : Pair). r .first) e in omega arith
+precedes-another p q (by-second f l) e = let m = ap (λ (r : Pair). r .second) e in omega arith
+
+pub listed-once : (k : Book) (d : Pair) (m n : ℕ) → m < n → n < length (clashing k) → getD (clashing k) m d ≡ getD (clashing k) n d → ⊥
+listed-once k d m n l h = precedes-another (getD (clashing k) m d) (getD (clashing k) n d) (listed-in-order k d m n l h)
+
 -- The list as it is written, row by row; and its size.
 two-each : (ps : List Pair) → length (each ps pairBytes) ≡ 2 * length ps
 unfolding each

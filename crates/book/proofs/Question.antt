@@ -1,5 +1,5 @@
--- The question of two templates of a book within its ranges is a sheet within document 01's, so that its bytes are accepted as that sheet; and they are at
--- most 49. Assumes nothing.
+-- The question of two templates of a book within its ranges is a sheet within document 01's, so that its bytes are accepted as that sheet. Assumes
+-- nothing.
 use mathlib.Core.Path.{_≡_, refl}
 use mathlib.Core.List.{List, [], _∷_, _++_, map}
 use Prim.Native.Nat.{ℕ, _+_, _<_}

@@ -113,8 +113,8 @@ fn hand_over(book: &[u8], list: &mut [u8]) -> Compared
     deliver(book, &mut own, list)
 }
 
-// Lists which templates of a book clash, two bytes for each pair of them, by the first and then by the second, at the front of the buffer; and answers how many
-// pairs there are. Else the first refusal in document 02's order. Any bytes are allowed. Bytes after the list, and refused all, are as they were.
+// Lists which templates of a book clash, two bytes for each pair that does, by the first and then by the second, at the front of the buffer; and answers how many
+// such pairs there are. Else the first refusal in document 02's order. Any bytes are allowed. Bytes after the list, and refused all, are as they were.
 pub fn compare(book: &[u8], list: &mut [u8]) -> Compared
     ensures { λ r. ⌜ Decides (comparing (now (book .entry)) (length (now (list .entry)))) (now (list .entry)) (compared r) (now (list .exit)) ⌝ }
 {

@@ -1,5 +1,5 @@
 // What an accepted book says, by number: its letters, and each template's limits and symbols as that stretch of the caller's book. Every function here
-// requires an accepted book and a number of a template that it has. It knows nothing of how a book comes to be accepted, nor of what it asks.
+// requires an accepted book, and where it takes a template's number one that the book has. It knows nothing of how a book comes to be accepted, nor of what it asks.
 use scan::stretch;
 use scan::wide;
 ghost use mathlib.Core.Path.{_≡_};

@@ -13,7 +13,7 @@ use Rattle.model.proofs.Sections.{symbol-again}
 use Rattle.book.specs.Book.{Template, Book, template, OwnIn, BookIn}
 use Rattle.book.specs.Pairs.{numberedAfter, asked, question}
 use Rattle.book.proofs.Question.{own-in}
-use Rattle.book_question.specs.Bytes.{numbered, headBytes, pairBytes}
+use Rattle.book_question.specs.Bytes.{numbered, headBytes, sidesBytes}
 
 -- a symbol's byte by its two cases
 module _ (n x : ℕ) where
@@ -62,7 +62,7 @@ module _ (k : Book) (ok : BookIn k) (i j : ℕ) (hi : i < length (k .templates))
   head = headBytes (k .letters) (t .limits) (u .limits)
 
   abbrev tail : List ℕ
-  tail = pairBytes (length (t .limits)) (map symbolByte (t .symbols)) (map symbolByte (u .symbols))
+  tail = sidesBytes (length (t .limits)) (map symbolByte (t .symbols)) (map symbolByte (u .symbols))
 
   pub t-in : OwnIn (length (k .letters)) t
   t-in = own-in k ok i hi
@@ -71,7 +71,7 @@ module _ (k : Book) (ok : BookIn k) (i j : ℕ) (hi : i < length (k .templates))
   u-in = own-in k ok j hj
 
   pub question-bytes : encode (question k i j) ≡ head ++ tail
-  unfolding asked encode each headBytes pairBytes
+  unfolding asked encode each headBytes sidesBytes
   question-bytes =
       let limits : List ℕ = t .limits ++ u .limits in
       let right : List Symbol = map (numberedAfter (length (t .limits))) (u .symbols) in
@@ -95,7 +95,7 @@ module _ (k : Book) (ok : BookIn k) (i j : ℕ) (hi : i < length (k .templates))
       omega arith
 
   pub tail-size : length tail ≡ 2 + length (t .symbols) + length (u .symbols)
-  unfolding pairBytes
+  unfolding sidesBytes
   tail-size =
       let n = length-append (map symbolByte (t .symbols)) (map (numbered (length (t .limits))) (map symbolByte (u .symbols))) in
       let a = length-map (t .symbols) symbolByte in

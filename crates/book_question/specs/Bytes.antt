@@ -15,5 +15,5 @@ headBytes letters left right =
     (mark ++ bytesOf 1) ++ ((length letters ∷ (length left + length right) ∷ 1 ∷ 0 ∷ []) ++ (letters ++ (left ++ right)))
 
 -- the counts and the symbols of both sides
-unfoldable pub pairBytes : ℕ → List ℕ → List ℕ → List ℕ
-pairBytes n left right = (length left ∷ length right ∷ []) ++ (left ++ map (numbered n) right)
+unfoldable pub sidesBytes : ℕ → List ℕ → List ℕ → List ℕ
+sidesBytes n left right = (length left ∷ length right ∷ []) ++ (left ++ map (numbered n) right)

@@ -10,7 +10,7 @@ ghost use Rattle.model.specs.Lists.{All, Puts};
 ghost use Rattle.model.specs.Sheet.{encode};
 ghost use Rattle.book.specs.Book.{bookOf, Admitted};
 ghost use Rattle.book.specs.Pairs.{question};
-ghost use Rattle.book_question.specs.Bytes.{numbered, headBytes, pairBytes};
+ghost use Rattle.book_question.specs.Bytes.{numbered, headBytes, sidesBytes};
 
 // The greatest size of a question: a header of 9 bytes, 8 letters, 6 limits, 2 counts, and 12 symbols on each side.
 pub const MOST_QUESTION: usize = 49;
@@ -53,9 +53,9 @@ fn put_head(buf: &mut [u8], letters: &[u8], left: &[u8], right: &[u8]) -> usize
 }
 
 // The two symbol counts and the symbols, those on the right numbered after n fields, at an offset. Returns the offset past them.
-fn put_pair(buf: &mut [u8], at: usize, n: u8, left: &[u8], right: &[u8]) -> usize
-    requires { ⌜ (n ≤ 3) × All (λ x. x < 128 + 3) (now right) × (length (now left) ≤ 12) × (length (now right) ≤ 12) × (at + length (pairBytes n (now left) (now right)) ≤ length (now buf)) ⌝ }
-    ensures { λ r. ⌜ Puts (now (buf .entry)) at (pairBytes n (now (left .entry)) (now (right .entry))) (now (buf .exit)) r ⌝ }
+fn put_sides(buf: &mut [u8], at: usize, n: u8, left: &[u8], right: &[u8]) -> usize
+    requires { ⌜ (n ≤ 3) × All (λ x. x < 128 + 3) (now right) × (length (now left) ≤ 12) × (length (now right) ≤ 12) × (at + length (sidesBytes n (now left) (now right)) ≤ length (now buf)) ⌝ }
+    ensures { λ r. ⌜ Puts (now (buf .entry)) at (sidesBytes n (now (left .entry)) (now (right .entry))) (now (buf .exit)) r ⌝ }
 {
     let a = put(buf, at, &[left.len() as u8, right.len() as u8]);
     let b = put(buf, a, left);
@@ -70,7 +70,7 @@ pub fn put_question(buf: &mut [u8], book: &[u8], i: usize, j: usize) -> usize
     let left = book_parts::limits(book, i);
     let right = book_parts::limits(book, j);
     let at = put_head(buf, book_parts::letters(book), left, right);
-    put_pair(
+    put_sides(
         buf,
         at,
         left.len() as u8,

@@ -1,4 +1,4 @@
-// Reads a book of templates: accepted, or document 02's refusal 40 or 41. It goes once from the front to the end. It knows nothing of what a book asks.
+// Reads a book of templates: accepted, or document 02's refusal 40 or 41. It knows nothing of what a book asks.
 use rows::Progress;
 use rows::Role;
 use rows::row;

@@ -7,6 +7,7 @@ use mathlib.Core.Bool.{true}
 use mathlib.Core.List.{List, [], _∷_, _++_, map}
 use Prim.Native.Nat.{ℕ, _+_, _*_, _<_, _≤_}
 use native.Mathlib.Omega.{arith}
+use lib.Dec.{ltb}
 use lib.ListN.{length, getD, take, drop}
 use Rattle.model.specs.Lists.{each, All, Bytes}
 use Rattle.model.specs.Sheet.{Sheet, letter, field, read, accepted, encode}
@@ -15,19 +16,22 @@ use Rattle.model.specs.Solvable.{solvable}
 use Rattle.book.specs.Book as book
 use Rattle.book.specs.Book.{Book, template, readBook, encodeBook, BookIn, bookOf}
 use Rattle.book.specs.Pairs.{numberedAfter, asked, question, clash, Clash, Pair, clashing, pairBytes, listBytes, Precedes}
-use Rattle.calls.specs.Calls.{Answer, finished, verdict, searching, decision, Decides, comparing}
-use Rattle.calls.specs.Rules.{comparingRules}
-use Rattle.model.proofs.Lists.{weaken, from-at}
+use Rattle.calls.specs.Calls.{Answer, refused, finished, verdict, searching, decision, Decides, comparing}
+use Rattle.calls.specs.Rules.{Kept, bookRules, comparingRules}
+use borrow.Author.Tests.{ltb-true, ltb-false}
+use Rattle.model.proofs.Lists.{by-test, weaken, from-at}
 use Rattle.model.proofs.Known.{accepted-as}
 use Rattle.book.proofs.Reading as reading
 use Rattle.book.proofs.Question.{question-in-range, question-read}
 use Rattle.book.proofs.Meaning.{clash-means}
-use Rattle.book.proofs.Listed.{listed-clash, clash-listed, listed-in-order, list-size, clashing-few}
+use Rattle.book.proofs.Listed.{listed-clash, clash-listed, listed-in-order, listed-once, list-size, clashing-few}
 use Rattle.calls.proofs.Searching as searches
-use Rattle.calls.proofs.Comparing.{compared}
+use Rattle.calls.proofs.Comparing.{finished-listed, comparing-room, comparing-finished}
+use Rattle.calls.proofs.Operations.{not-finished}
+use Rattle.calls.proofs.Ordered.{kept-goes, first-fails, first-or-none}
 use Rattle.calls.proofs.Demands.{InOrder, Unchanged, in-order}
 use Rattle.calls.proofs.FirstRefusals.{decision-ordered}
-use Rattle.calls.proofs.BookRefusals.{comparing-ordered}
+use Rattle.calls.proofs.BookRefusals.{book-follows, comparing-ordered}
 
 -- "A book has the mark TPB, version 1 in 16 bits, L and its letters, a template count of 1 to 16, then the templates. Each template has a field count of 0 to 3,
 -- limits, a symbol count and symbols.": the bytes of a book within the ranges are read as that book, and no others are accepted. No accepted book has more
@@ -84,22 +88,25 @@ pub record Stands (p : Pair) (ps : List Pair) : Type 0 where
   pub inside : place < length ps
   pub there : getD ps place (record { first = 0; second = 0 }) ≡ p
 
--- "The answer lists each clashing (i, j) once, by i then j, one byte for i and one for j; templates and rules, like pairs, count from 0. It lists all of them and no
--- others, gives their number, and leaves later bytes unchanged."
+-- "The answer lists each clashing (i, j) once, by i then j, one byte for i and one for j; templates .., like pairs, count from 0. It lists all of them and no others,
+-- gives their number, and leaves later bytes unchanged."
 pub record ListsTheClashes (k : Book) (before after : List ℕ) (number : ℕ) : Type 0 where
   pub list : List Pair
   pub bytes : after ≡ each list pairBytes ++ drop (2 * length list) before
   pub their-number : number ≡ length list
   pub all-of-them : (i j : ℕ) → i < j → j < length (k .templates) → Clash k i j → Stands (record { first = i; second = j }) list
   pub no-others : All (λ p. (p .first < p .second) × (p .second < length (k .templates)) × Clash k (p .first) (p .second)) list
-  -- each precedes those after it, so that none stands there twice
+  pub once : (d : Pair) (m n : ℕ) → m < n → n < length list → getD list m d ≡ getD list n d → ⊥
+  -- each precedes those after it
   pub in-order : (d : Pair) (m n : ℕ) → m < n → n < length list → Precedes (getD list m d) (getD list n d)
 
 all-stand : (ps : List Pair) → All (λ p. Stands p ps) ps
 all-stand ps = from-at (λ p. Stands p ps) (record { first = 0; second = 0 }) ps (λ i l. record { place = i; inside = l; there = refl })
 
 module _ (b before after : List ℕ) (answer : Answer) (call : Decides (comparing b (length before)) before answer after) where
-  -- "40 when .. 41 when .. 42 when the list's buffer is shorter than the list; they are tested in this order." A refusal changes no lent byte.
+  -- "40 when the book is under five bytes or mark or version is wrong. 41 when a count, letter, limit, symbol or width breaks a range given here or a sheet's rule for
+  -- it, or bytes are missing or left over. 42 when the list's buffer is shorter than the list; they are tested in this order.": the first of `comparingRules` that is
+  -- broken is given, and a refusal changes no lent byte.
   pub comparing-gives-the-first-refusal : InOrder (comparingRules b (length before)) answer × Unchanged answer before after
   comparing-gives-the-first-refusal =
       (rw (call .0) (in-order (decision-ordered (comparing-ordered b (length before)))), searches.refused-unchanged (comparing b (length before)) call)
@@ -107,7 +114,7 @@ module _ (b before after : List ℕ) (answer : Answer) (call : Decides (comparin
   pub lists-the-clashes : Bytes b → (number : ℕ) → answer ≡ finished (number ∷ []) → ListsTheClashes (bookOf b) before after number
   unfolding listBytes
   lists-the-clashes y number e =
-      let c = compared b before after (number ∷ []) (sym e ∙ call .0, call .1) in
+      let c = finished-listed b before after (number ∷ []) (sym e ∙ call .0, call .1) in
       let k : Book = bookOf b in
       let ok = reading.accepted-encode b y (c .admitted) .1 in
       let size = list-size k in
@@ -117,6 +124,7 @@ module _ (b before after : List ℕ) (answer : Answer) (call : Decides (comparin
         their-number = first-same (c .number);
         all-of-them = λ i j l m h. clash-listed k (λ p. Stands p (clashing k)) (all-stand (clashing k)) i j l m (clash-means k ok i j (omega arith) .1 h);
         no-others = weaken _ _ (clashing k) (λ p h. (h .0, h .1, clash-means k ok (p .first) (p .second) (omega (arith, h .0, h .1)) .0 (h .2))) (listed-clash k);
+        once = listed-once k;
         in-order = listed-in-order k;
       }
     where
@@ -126,3 +134,25 @@ module _ (b before after : List ℕ) (answer : Answer) (call : Decides (comparin
 -- the list has at most 120 pairs, so 240 bytes
 pub lists-are-short : (k : Book) → BookIn k → length (listBytes k) ≤ 240
 lists-are-short k ok = omega (arith, list-size k, clashing-few k (ok .of-templates .1))
+
+-- A book is accepted exactly when it breaks none of the rules for 40 and 41.
+pub accepted-breaks-none : (b : List ℕ) → ((k : Book) × (readBook b ≡ book.accepted k)) ↔ Kept (bookRules b)
+accepted-breaks-none b =
+    let f = book-follows b in (
+      (λ a. first-or-none (bookRules b) (λ h. h) (λ n broken. not-accepted (sym (first-fails book.refused (bookRules b) (book.accepted (f .0)) broken) ∙ sym (f .1) ∙ a .1))),
+      λ h. (f .0, f .1 ∙ kept-goes book.refused (bookRules b) (book.accepted (f .0)) h),
+    )
+  where
+    not-accepted : {P : Type 0} {n : ℕ} {k : Book} → book.refused n ≡ book.accepted k → P
+    not-accepted e = let z : _≡_ {A = ℕ} 0 1 = cc in absurd (omega arith)
+
+-- "42 when the list's buffer is shorter than the list": of an accepted book, exactly when it has fewer than two bytes for each pair that clashes
+pub too-short-exactly : (b : List ℕ) → Bytes b → (k : Book) → readBook b ≡ book.accepted k → (room : ℕ) → (comparing b room ≡ refused 42) ↔ (room < 2 * length (clashing (bookOf b)))
+too-short-exactly b y k e room =
+    let ok = reading.accepted-admitted b y e in
+    let size = list-size (bookOf b) in (
+      (λ q. by-test (ltb room (2 * length (clashing (bookOf b))))
+          (λ t. ltb-true room _ t)
+          (λ t. let h = ltb-false room _ t in not-finished (sym q ∙ comparing-finished b room ok (omega arith)))),
+      λ h. comparing-room b room ok (omega arith),
+    )

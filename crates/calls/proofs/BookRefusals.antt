@@ -80,7 +80,7 @@ module _ (b : List ℕ) where
   three-tests false q r go fail = refl
 
   -- the book that is read, where none is broken
-  book-follows : (k : Book) × (readBook b ≡ inOrder book.refused (bookRules b) (book.accepted k))
+  pub book-follows : (k : Book) × (readBook b ≡ inOrder book.refused (bookRules b) (book.accepted k))
   unfolding readBook opens bookRules
   book-follows =
       let walked = body-follows in

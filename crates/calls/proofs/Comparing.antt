@@ -84,7 +84,7 @@ module _ (b before : List ℕ) where
       (ap (λ m. finished (m ∷ [])) count ∙ sym (ap decision f), e ∙ sym (ap (λ a. written (following a) before) f))
 
 -- What an answer that is finished tells.
-pub record Compared (b before after : List ℕ) (values : List ℕ) : Type 0 where
+pub record Listed (b before after : List ℕ) (values : List ℕ) : Type 0 where
   pub admitted : readBook b ≡ book.accepted (bookOf b)
   pub enough : length (listBytes (bookOf b)) ≤ length before
   pub number : values ≡ length (clashing (bookOf b)) ∷ []
@@ -95,7 +95,7 @@ finished-same e = cc
 
 module _ (b before after values : List ℕ) where
   of-book : (k : Book) → bookOf b ≡ k → readBook b ≡ book.accepted k → length (listBytes k) ≤ length before → values ≡ length (clashing k) ∷ []
-      → after ≡ listBytes k ++ drop (length (listBytes k)) before → Compared b before after values
+      → after ≡ listBytes k ++ drop (length (listBytes k)) before → Listed b before after values
   of-book k is e enough number bytes = record {
     admitted = e ∙ ap book.accepted (sym is);
     enough = subst (λ x. length (listBytes x) ≤ length before) (sym is) enough;
@@ -104,24 +104,24 @@ module _ (b before after values : List ℕ) where
   }
 
   by-room : (k : Book) (t : Bool) → readBook b ≡ book.accepted k → leb (length (listBytes k)) (length before) ≡ t
-      → finished values ≡ decision (pick t (finished (listValues k)) (refused 42)) → after ≡ written (following (pick t (finished (listValues k)) (refused 42))) before → Compared b before after values
+      → finished values ≡ decision (pick t (finished (listValues k)) (refused 42)) → after ≡ written (following (pick t (finished (listValues k)) (refused 42))) before → Listed b before after values
   unfolding bookOf
   by-room k true e h a w = of-book k (ap bookIn e) e (leb-true _ _ h) (finished-same a) w
   by-room k false e h a w = not-finished (sym a)
 
-  by-book : (r : book.Reading) → readBook b ≡ r → finished values ≡ decision (ofBook r (λ k. comparingOf k (length before))) → after ≡ written (following (ofBook r (λ k. comparingOf k (length before)))) before → Compared b before after values
+  by-book : (r : book.Reading) → readBook b ≡ r → finished values ≡ decision (ofBook r (λ k. comparingOf k (length before))) → after ≡ written (following (ofBook r (λ k. comparingOf k (length before)))) before → Listed b before after values
   unfolding comparingOf
   by-book (book.accepted k) e a w = by-room k (leb (length (listBytes k)) (length before)) e refl a w
   by-book (book.refused n) e a w = not-finished (sym a)
 
-  pub compared : Decides (comparing b (length before)) before (finished values) after → Compared b before after values
+  pub finished-listed : Decides (comparing b (length before)) before (finished values) after → Listed b before after values
   unfolding comparing
-  compared call = by-book (readBook b) refl (call .0) (call .1)
+  finished-listed call = by-book (readBook b) refl (call .0) (call .1)
 
   -- and there are no more than 120
   pub few : Bytes b → (n : ℕ) → values ≡ n ∷ [] → Decides (comparing b (length before)) before (finished values) after → n ≤ 120
   few y n e call =
-      let c = compared call in
+      let c = finished-listed call in
       let ok = accepted-encode b y (c .admitted) .1 in
       let m : n ≡ length (clashing (bookOf b)) = first-same (sym e ∙ c .number) in
       omega (arith, clashing-few (bookOf b) (ok .of-templates .1))

@@ -74,8 +74,8 @@ pub extern "C" fn tpl_reply(sheet: &[u8], reply: &[u8], filling: &mut [u8]) -> i
     c_replies::reply(sheet, reply, filling)
 }
 
-// Lists which templates of a book clash, two bytes for each pair of them in `list`, by the first and then by the second. Returns the number of pairs, with later
-// bytes as they were; or minus document 02's number of the first refusal, with all bytes as they were.
+// Lists which templates of a book clash, two bytes in `list` for each pair that does, by the first and then by the second. Returns the number of such pairs, with
+// later bytes as they were; or minus document 02's number of the first refusal, with all bytes as they were.
 #[no_mangle]
 pub extern "C" fn tpl_book(book: &[u8], list: &mut [u8]) -> i64
     ensures { λ r. ⌜ Decided (comparing (now (book .entry)) (length (now (list .entry)))) (now (list .entry)) r (now (list .exit)) ⌝ }

@@ -1,4 +1,4 @@
--- `book_question::put_question` meets its contract: the head, then the pair. Assumes nothing.
+-- `book_question::put_question` meets its contract: the head, then the two sides. Assumes nothing.
 use mathlib.Core.Path.{_≡_, refl, sym, ap, subst, _∙_}
 use mathlib.Core.List.{List, [], _∷_, map}
 use Prim.Native.Nat.{ℕ, _+_, _<_, _≤_}
@@ -10,7 +10,7 @@ use Rattle.model.specs.Sheet.{symbolByte, encode}
 use Rattle.model.proofs.Writing.{Writing, joined, begin, fits, next, ends}
 use Rattle.book.specs.Book.{Book, template, bookOf}
 use Rattle.book.specs.Pairs.{question}
-use Rattle.book_question.specs.Bytes.{headBytes, pairBytes}
+use Rattle.book_question.specs.Bytes.{headBytes, sidesBytes}
 use Rattle.book_question.proofs.Laws.{t-in, u-in, symbols-small, question-bytes, question-small}
 use Rattle.book_question.proofs.put_question.Statement.{statement}
 use Rattle.book_question.proofs.put_question.Tie as tie
@@ -27,7 +27,7 @@ module _ (c : tie.Start) where
   head = headBytes (k .letters) (template k (c .args .i) .limits) (template k (c .args .j) .limits)
 
   abbrev tail : List ℕ
-  tail = pairBytes (length (template k (c .args .i) .limits)) (map symbolByte (template k (c .args .i) .symbols)) (map symbolByte (template k (c .args .j) .symbols))
+  tail = sidesBytes (length (template k (c .args .i) .limits)) (map symbolByte (template k (c .args .i) .symbols)) (map symbolByte (template k (c .args .j) .symbols))
 
   abbrev Still : List ℕ → List (List ℕ) → List ℕ → ℕ → Type 0
   Still = Writing (c .args .buf .now) 0 (encode (question k (c .args .i) (c .args .j)))
@@ -49,14 +49,14 @@ module _ (c : tie.Start) where
       let n = fits both in
       (c .pre .0 .1 .of-letters .1, t-in k (c .pre .0 .1) (c .args .i) (c .args .j) (c .pre .1) (c .pre .2) .few, u-in k (c .pre .0 .1) (c .args .i) (c .args .j) (c .pre .1) (c .pre .2) .few, omega arith)
 
-  -- what the pair's pieces keep to, at an offset of a buffer
-  abbrev PairAsks : ℕ → List ℕ → List ℕ → List ℕ → List ℕ → Type 0
-  PairAsks at buf limits left right =
-      (length limits ≤ 3) × All (λ x. x < 128 + 3) right × (length left ≤ 12) × (length right ≤ 12) × (at + length (pairBytes (length limits) left right) ≤ length buf)
+  -- what the pieces of the two sides keep to, at an offset of a buffer
+  abbrev SidesAsk : ℕ → List ℕ → List ℕ → List ℕ → List ℕ → Type 0
+  SidesAsk at buf limits left right =
+      (length limits ≤ 3) × All (λ x. x < 128 + 3) right × (length left ≤ 12) × (length right ≤ 12) × (at + length (sidesBytes (length limits) left right) ≤ length buf)
 
-  pair-asks : (at : ℕ) (buf : List ℕ) → at + length tail ≤ length buf
-      → PairAsks at buf (template k (c .args .i) .limits) (map symbolByte (template k (c .args .i) .symbols)) (map symbolByte (template k (c .args .j) .symbols))
-  pair-asks at buf h =
+  sides-ask : (at : ℕ) (buf : List ℕ) → at + length tail ≤ length buf
+      → SidesAsk at buf (template k (c .args .i) .limits) (map symbolByte (template k (c .args .i) .symbols)) (map symbolByte (template k (c .args .j) .symbols))
+  sides-ask at buf h =
       let t = t-in k (c .pre .0 .1) (c .args .i) (c .args .j) (c .pre .1) (c .pre .2) in
       let u = u-in k (c .pre .0 .1) (c .args .i) (c .args .j) (c .pre .1) (c .pre .2) in
       let n = length-map (template k (c .args .i) .symbols) symbolByte in
@@ -103,8 +103,8 @@ put-head-requires c κs =
     let s = start at-limits in
     swap (HeadAsks s) (c .letters .ensures) (left-is at-limits) (right-is at-limits) (head-asks s)
 
-cast-put-pair : tie.Need-cast-put-pair
-cast-put-pair c =
+cast-put-sides : tie.Need-cast-put-sides
+cast-put-sides c =
     let at-limits = limited (c .before .before .before) in
     omega (arith, ap length (left-is at-limits), head-asks (start at-limits))
 
@@ -114,13 +114,13 @@ symbols-requires c κs = search needs
 symbols-requires-2 : tie.Need-symbols-requires-2
 symbols-requires-2 c κs = search needs
 
-put-pair-requires : tie.Need-put-pair-requires
-put-pair-requires c κs =
+put-sides-requires : tie.Need-put-sides-requires
+put-sides-requires c κs =
     let at-head = c .before .before .before .before .before in
     let at-limits = limited at-head in
     let s = start at-limits in
-    swap (PairAsks s (at-head .put-head .result) (at-head .put-head .last .0)) (left-is at-limits) (c .before .symbols .ensures) (c .symbols2 .ensures)
-    (pair-asks s (at-head .put-head .result) (at-head .put-head .last .0) (fits (headed at-head)))
+    swap (SidesAsk s (at-head .put-head .result) (at-head .put-head .last .0)) (left-is at-limits) (c .before .symbols .ensures) (c .symbols2 .ensures)
+    (sides-ask s (at-head .put-head .result) (at-head .put-head .last .0) (fits (headed at-head)))
 
 same-length : tie.Need-same-length
 same-length c = search needs
@@ -132,8 +132,8 @@ returns c =
     let at-head = at-symbols2 .before .before .before .before .before in
     let at-limits = limited at-head in
     let s = start at-limits in
-    let e = swap (λ l m n. pairBytes (length l) m n ≡ tail s) (left-is at-limits) (at-symbols2 .before .symbols .ensures) (at-symbols2 .symbols2 .ensures) refl in
-    ends _ _ (headed at-head) (subst (λ p. Puts (at-head .put-head .last .0) (at-head .put-head .result) p (after .put-pair .last .0) (after .put-pair .result)) e (after .put-pair .ensures)) (after .put-pair .kept .0)
+    let e = swap (λ l m n. sidesBytes (length l) m n ≡ tail s) (left-is at-limits) (at-symbols2 .before .symbols .ensures) (at-symbols2 .symbols2 .ensures) refl in
+    ends _ _ (headed at-head) (subst (λ p. Puts (at-head .put-head .last .0) (at-head .put-head .result) p (after .put-sides .last .0) (after .put-sides .result)) e (after .put-sides .ensures)) (after .put-sides .kept .0)
 
 pub put-question-spec : {M : Type 1} → statement M
 put-question-spec =
@@ -143,9 +143,9 @@ put-question-spec =
     limits-requires-2
     letters-requires
     put-head-requires
-    cast-put-pair
+    cast-put-sides
     symbols-requires
     symbols-requires-2
-    put-pair-requires
+    put-sides-requires
     same-length
     returns)

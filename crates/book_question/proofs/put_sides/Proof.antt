@@ -1,4 +1,4 @@
--- `book_question::put_pair` meets its contract: three pieces, one after another. Assumes nothing.
+-- `book_question::put_sides` meets its contract: three pieces, one after another. Assumes nothing.
 use mathlib.Core.Path.{refl}
 use mathlib.Core.List.{List, [], _∷_, map}
 use Prim.Native.Nat.{ℕ}
@@ -6,9 +6,9 @@ use native.Mathlib.Omega.{arith}
 use lib.ListN.{length, length-map}
 use borrow.Author.Needs.{needs}
 use Rattle.model.proofs.Writing.{Writing, joined, begin, fits, next, ends}
-use Rattle.book_question.specs.Bytes.{numbered, pairBytes}
-use Rattle.book_question.proofs.put_pair.Statement.{statement}
-use Rattle.book_question.proofs.put_pair.Tie as tie
+use Rattle.book_question.specs.Bytes.{numbered, sidesBytes}
+use Rattle.book_question.proofs.put_sides.Statement.{statement}
+use Rattle.book_question.proofs.put_sides.Tie as tie
 
 -- what is still to be written: all three pieces, two, one
 module _ (c : tie.Start) where
@@ -16,13 +16,13 @@ module _ (c : tie.Start) where
   shifted = map (numbered (c .args .n)) (c .args .right .now)
 
   abbrev Still : List ℕ → List (List ℕ) → List ℕ → ℕ → Type 0
-  Still = Writing (c .args .buf .now) (c .args .at) (pairBytes (c .args .n) (c .args .left .now) (c .args .right .now))
+  Still = Writing (c .args .buf .now) (c .args .at) (sidesBytes (c .args .n) (c .args .left .now) (c .args .right .now))
 
   abbrev counts : List ℕ
   counts = length (c .args .left .now) ∷ length (c .args .right .now) ∷ []
 
   three : Still counts (c .args .left .now ∷ shifted ∷ []) (c .args .buf .now) (c .args .at)
-  unfolding pairBytes joined
+  unfolding sidesBytes joined
   three = begin (c .args .buf .now) (c .args .at) _ _ _ refl (c .pre .4)
 
 abbrev start : tie.After-put → tie.Start
@@ -68,8 +68,8 @@ returns c =
     let after = c .before .before in
     ends _ _ (one (after .before .before .before .before)) (after .put-numbered .ensures) (after .put-numbered .kept .0)
 
-pub put-pair-spec : {M : Type 1} → statement M
-put-pair-spec =
+pub put-sides-spec : {M : Type 1} → statement M
+put-sides-spec =
     tie.close
     (tie.spec
     cast-t12
