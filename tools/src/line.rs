@@ -90,6 +90,8 @@ impl Line {
     fn found(&mut self) -> String {
         match self.peek() {
             None => "the end of the line".to_string(),
+            // No byte moves the terminal's place.
+            Some(c) if c.is_control() => format!("`{}`", c.escape_debug()),
             Some(c) => format!("`{c}`"),
         }
     }

@@ -47,13 +47,14 @@ pub fn names(input: &Input, pair: Clashing) -> String {
     format!("{first} {} and {second} {}", name(first), name(second))
 }
 
-/// What is asked, and what the marks of the table mean.
+/// What is asked, and what the signs of the table mean.
 const ASKED: &str = "\
 Which two of these templates can spell the same text? Any two are asked as two shops may send them: each
 template has fields of its own, any field may be empty or hold any of the letters, and there are no rules.
 
-  X  clash: with some texts in the fields both spell the same
-  .  apart: no texts in the fields make them spell the same";
+  X      clash: with some texts in the fields both spell the same
+  .      apart: no texts in the fields make them spell the same
+  {x 4}  a field whose text has at most 4 letters";
 
 /// The first clash of two templates.
 fn clash(input: &Input, pair: Clashing) -> String {
