@@ -28,7 +28,8 @@ pub struct Template<'a> {
 }
 
 impl Book {
-    /// Reads a book of any bytes, and asks about every two of its templates; the engine has one call for both. Refusals: 40 and 41.
+    /// Reads a book of any bytes, and asks about every two of its templates; the engine has one call for both. Refusals: 40 and 41; not 42,
+    /// since the buffer that is lent to the engine is always long enough.
     ///
     /// ```
     /// use lunthegyr::{Book, Clashing, Refusal};

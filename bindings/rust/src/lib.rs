@@ -19,7 +19,7 @@
 //!
 //! A sheet lists templates in pairs, and has rules. A filling clashes when in every pair both templates spell the same text, and every rule of
 //! the sheet holds. The repository's `docs/01-scope.md` ("document 01") defines the bytes of a sheet and of a filling, and what is refused;
-//! `docs/02-change-requests.md` ("document 02") those of a book.
+//! `docs/02-change-requests.md` ("document 02") does so for a book.
 //!
 //! ```
 //! use lunthegyr::{Sheet, Side};
