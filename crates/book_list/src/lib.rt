@@ -1,19 +1,22 @@
 // The list of a book: which of its templates clash. Of every two the question is written as a sheet and settled, without an order, since the verdict alone
-// counts. The list is made in a buffer of its own, so that nothing is written to the lent one before it is known to be long enough.
+// counts; what was asked before of the same templates is looked up. The list is made in a buffer of its own, so that nothing is written to the lent one before it is known to be long enough.
 use book_question::MOST_QUESTION;
 use book_question::put_question;
+use book_repeats::first_alike;
+use book_repeats::listed;
 use scan::stretch;
 use words::put;
 ghost use mathlib.Core.Path.{_≡_};
 ghost use mathlib.Core.List.{[], _∷_};
 ghost use Prim.Native.Nat.{_+_, _<_, _≤_};
-ghost use lib.ListN.{length};
-ghost use Rattle.model.specs.Lists.{when, Puts};
+ghost use lib.ListN.{length, take};
+ghost use Rattle.model.specs.Lists.{each, upTo, when, Puts};
 ghost use Rattle.calls.specs.Calls.{comparing, Decides};
 ghost use Rattle.book.specs.Book.{bookOf, Admitted};
 ghost use Rattle.book.specs.Pairs.{listBytes, rowBytes};
 ghost use Rattle.book.specs.Pairs as model;
 ghost use Rattle.book_list.specs.Answer.{numberOf, compared};
+ghost use Rattle.book_list.specs.Before.{before};
 
 // What is refused, by document 02's numbers: what reading a book refuses, and 42.
 pub enum Refusal {
@@ -51,20 +54,37 @@ fn clash(book: &[u8], i: usize, j: usize) -> bool
     found.ok
 }
 
-// Templates i and j, if they clash, at an offset. Returns the offset past them.
+// Whether templates i and j clash, with the list of those before them: where an earlier template is the same as the one or the other, the list tells.
+fn settled(list: &[u8], book: &[u8], i: usize, j: usize) -> bool
+    requires { ⌜ Admitted (now book) × (i < j) × (j < length (bookOf (now book) .templates)) × (now list ≡ before (bookOf (now book)) i j) ⌝ }
+    ensures { λ r. ⌜ r ≡ model.clash (bookOf (now (book .entry))) i j ⌝ }
+{
+    let a = first_alike(book, 0, i);
+    if a < i {
+        return listed(list, a, j);
+    }
+    let b = first_alike(book, i + 1, j);
+    if b < j {
+        return listed(list, i, b);
+    }
+    clash(book, i, j)
+}
+
+// Templates i and j, if they clash, at an offset up to which those before them are listed. Returns the offset past them.
 fn put_pair(list: &mut [u8], at: usize, book: &[u8], i: usize, j: usize) -> usize
-    requires { ⌜ Admitted (now book) × (i < j) × (j < length (bookOf (now book) .templates)) × (at + length (when (model.clash (bookOf (now book)) i j) (i ∷ j ∷ [])) ≤ length (now list)) ⌝ }
+    requires { ⌜ Admitted (now book) × (i < j) × (j < length (bookOf (now book) .templates)) × (take at (now list) ≡ before (bookOf (now book)) i j) × (at + length (when (model.clash (bookOf (now book)) i j) (i ∷ j ∷ [])) ≤ length (now list)) ⌝ }
     ensures { λ r. ⌜ Puts (now (list .entry)) at (when (model.clash (bookOf (now (book .entry))) i j) (i ∷ j ∷ [])) (now (list .exit)) r ⌝ }
 {
-    if !clash(book, i, j) {
+    if !settled(stretch(list, 0, at), book, i, j) {
         return at;
     }
     put(list, at, &[i as u8, j as u8])
 }
 
-// The pairs that clash with template i as the first, of a book of n templates. Returns the offset past them.
+// The pairs that clash with template i as the first, of a book of n templates, at an offset up to which the rows before i are listed. Returns the offset past
+// them.
 fn put_row(list: &mut [u8], at: usize, book: &[u8], i: usize, n: usize) -> usize
-    requires { ⌜ Admitted (now book) × (n ≡ length (bookOf (now book) .templates)) × (i < n) × (at + length (rowBytes (bookOf (now book)) i) ≤ length (now list)) ⌝ }
+    requires { ⌜ Admitted (now book) × (n ≡ length (bookOf (now book) .templates)) × (i < n) × (take at (now list) ≡ each (upTo i) (rowBytes (bookOf (now book)))) × (at + length (rowBytes (bookOf (now book)) i) ≤ length (now list)) ⌝ }
     ensures { λ r. ⌜ Puts (now (list .entry)) at (rowBytes (bookOf (now (book .entry))) i) (now (list .exit)) r ⌝ }
 {
     let mut past = at;

@@ -10,6 +10,7 @@ use Rattle.model.proofs.Pieces.{loop-none, loop-room, loop-next, loop-done}
 use Rattle.book.specs.Book.{bookOf}
 use Rattle.book.specs.Pairs.{rowBytes}
 use Rattle.book.proofs.Listed.{list-rows}
+use Rattle.book_list.proofs.Laws.{written-front}
 use Rattle.book_list.proofs.put_list.Statement.{statement}
 use Rattle.book_list.proofs.put_list.Tie as tie
 
@@ -36,7 +37,7 @@ put-row-requires c κs =
     let count = at-loop .before .count in
     let s = at-loop .before .before .before .before in
     let k = bookOf (s .args .book .now) in
-    (s .pre .0, count .ensures, c .before .loop-test .taken, loop-room (rowBytes k) (length (k .templates)) (room s) (l .inv .1) (omega (arith, count .ensures, c .before .loop-test .taken)))
+    (s .pre .0, count .ensures, c .before .loop-test .taken, written-front (omega arith) (l .inv .1), loop-room (rowBytes k) (length (k .templates)) (room s) (l .inv .1) (omega (arith, count .ensures, c .before .loop-test .taken)))
 
 add-i : tie.Need-add-i Inv-loop μ-loop
 add-i c = omega arith

@@ -1,5 +1,6 @@
 -- `book_list::put_row` meets its contract. The loop's invariant: the pairs of i and the templates before j have been written. Assumes nothing.
-use mathlib.Core.Path.{_≡_, sym, subst}
+use mathlib.Core.Path.{_≡_, sym, ap, subst, _∙_}
+use mathlib.Core.List.{_++_}
 use Prim.Native.Nat.{_+_, _-_, _≤_, _<_}
 use native.Mathlib.Omega.{arith}
 use lib.ListN.{length}
@@ -7,7 +8,7 @@ use Rattle.model.specs.Lists.{each, upTo, Puts}
 use Rattle.model.proofs.Seams.{Written}
 use Rattle.model.proofs.Pieces.{loop-none, loop-room, loop-next, loop-done}
 use Rattle.book.specs.Book.{bookOf}
-use Rattle.book_list.proofs.Laws.{piece, piece-is, row-pieces}
+use Rattle.book_list.proofs.Laws.{piece, piece-is, row-pieces, written-front, before-is}
 use Rattle.book_list.proofs.put_row.Statement.{statement}
 use Rattle.book_list.proofs.put_row.Tie as tie
 
@@ -19,7 +20,7 @@ abbrev μ-loop : tie.MeasureT-loop
 
 -- there is room for all pieces
 room : (c : tie.Start Inv-loop μ-loop) → c .args .at + length (each (upTo (c .args .n - (c .args .i + 1))) (piece (bookOf (c .args .book .now)) (c .args .i))) ≤ length (c .args .list .now)
-room c = subst (λ w. c .args .at + length w ≤ length (c .args .list .now)) (row-pieces (bookOf (c .args .book .now)) (c .args .i) (c .args .n) (c .pre .1)) (c .pre .3)
+room c = subst (λ w. c .args .at + length w ≤ length (c .args .list .now)) (row-pieces (bookOf (c .args .book .now)) (c .args .i) (c .args .n) (c .pre .1)) (c .pre .4)
 
 add-j : tie.Need-add-j Inv-loop μ-loop
 add-j c = omega (arith, c .before .before .pre .2)
@@ -38,7 +39,8 @@ put-pair-requires c κs =
     let s = at-loop .before .before .before in
     let a = s .args in
     let here = loop-room (piece (bookOf (a .book .now)) (a .i)) (a .n - (a .i + 1)) (room s) (l .inv .2) (omega (arith, c .before .loop-test .taken, l .inv .0)) in
-    (s .pre .0, l .inv .0, omega (arith, s .pre .1, c .before .loop-test .taken), subst (λ w. l .past + length w ≤ length (l .list)) (piece-is (bookOf (a .book .now)) (a .i) (l .j) (l .inv .0)) here)
+    let known = written-front (omega (arith, s .pre .4)) (l .inv .2) ∙ ap (λ xs. xs ++ each (upTo (l .j - (a .i + 1))) (piece (bookOf (a .book .now)) (a .i))) (s .pre .3) ∙ before-is (bookOf (a .book .now)) (a .i) (l .j) in
+    (s .pre .0, l .inv .0, omega (arith, s .pre .1, c .before .loop-test .taken), known, subst (λ w. l .past + length w ≤ length (l .list)) (piece-is (bookOf (a .book .now)) (a .i) (l .j) (l .inv .0)) here)
 
 add-j-2 : tie.Need-add-j-2 Inv-loop μ-loop
 add-j-2 c = omega arith
