@@ -64,6 +64,20 @@ impl Line {
         next
     }
 
+    /// Passes a word if it comes next and stands whole: after a space, and before a space, a `{` or the end of the line.
+    pub fn passes_word(&mut self, word: &str) -> bool {
+        self.peek();
+        let (before, rest) = self.chars.split_at(self.at);
+        let starts = before.last().map_or(true, |c| c.is_whitespace());
+        let same = word.chars().eq(rest.iter().copied().take(word.len()));
+        let next = rest.get(word.len());
+        let whole = starts && same && next.map_or(true, |&c| c.is_whitespace() || c == '{');
+        if whole {
+            self.at += word.len();
+        }
+        whole
+    }
+
     /// Passes a sign, or says what it is needed for.
     pub fn expect(&mut self, sign: char, why: &str) -> Result<(), Fault> {
         match self.passes(sign) {

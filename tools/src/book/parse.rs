@@ -2,10 +2,12 @@
 //!
 //!     letters 0 1 2 A                              the letters, in the order of their ASCII numbers
 //!     template hold-up = A{shop 4}{zone 2}{shop}   a template of letters, and of fields in braces; a field's limit stands where it comes first
-//!     template odd (zone 2, shop 4) = A{shop}      limits may also be given before, for fields that stand nowhere or in another order
+//!     template x = A{shop 4} unused {zone 2}       after the word `unused` fields with their limits that stand nowhere in the template
+//!     template y (zone 2, shop 4) = A{shop}        limits may also be given before, for fields in another order
 //!
-//! Fields are numbered in the order of their limits. Spaces, comments and backslashes are as in the text form of a sheet. What a book may have
-//! is not judged here: the engine does that.
+//! Fields are numbered in the order of their limits. Spaces, comments and backslashes are as in the text form of a sheet, but `unused` is the
+//! word only where it stands whole, with a space before it and a space, a `{` or the end of the line after it. Else it is six letters: `u nused`
+//! is. What a book may have is not judged here: the engine does that.
 
 use super::form::{Form, Template};
 use super::places::{Places, TemplatePlaces};
@@ -13,6 +15,9 @@ use crate::form::{Field, Symbol};
 use crate::letters;
 use crate::line::{fault_at, Line};
 use crate::source::{Fault, Place};
+
+/// The word before fields that stand nowhere in their template.
+pub const UNUSED: &str = "unused";
 
 /// A book's text as it was read.
 pub struct Read {
@@ -127,9 +132,12 @@ impl Reading {
         }
     }
 
-    /// Symbols up to the end of the line.
+    /// Symbols, and fields that stand nowhere, up to the end of the line.
     fn symbols(&mut self, line: &mut Line, letters: &[u8]) -> Result<(), Fault> {
         while line.peek().is_some() {
+            if line.passes_word(UNUSED) {
+                return self.unused(line);
+            }
             self.places.symbols.push(line.place());
             let symbol = match line.passes('{') {
                 true => self.field(line)?,
@@ -138,6 +146,25 @@ impl Reading {
             self.template.symbols.push(symbol);
         }
         Ok(())
+    }
+
+    /// Fields in braces after the word `unused`, at least one.
+    fn unused(&mut self, line: &mut Line) -> Result<(), Fault> {
+        loop {
+            line.expect(
+                '{',
+                "of a field after `unused` (the letters are written `u nused`)",
+            )?;
+            let (name, place) = line.field_name()?;
+            if self.named(&name).is_some() {
+                return fault_at(place, format!("`{name}` has a limit already in this template; after `unused` come only fields that stand nowhere else in it"));
+            }
+            self.limit(line, name, place)?;
+            line.expect('}', "after the field")?;
+            if line.peek().is_none() {
+                return Ok(());
+            }
+        }
     }
 
     /// A field that is known, or one that is new with its limit, and a `}`.

@@ -1,5 +1,7 @@
 //! Random books for tests, the same in every run.
 
+use super::parse::UNUSED;
+
 /// Numbers that look random (xorshift).
 pub struct Random(u64);
 
@@ -16,9 +18,17 @@ impl Random {
         (self.0 >> 16) as usize % most
     }
 
-    /// The bytes of a book within the ranges: any letters, fields in any order, and fields that no symbol is.
+    /// The bytes of a book within the ranges: any letters, fields in any order, and fields that no symbol is. Some have all letters of a word
+    /// of the text form, and templates with them in a row.
     pub fn book(&mut self) -> Vec<u8> {
-        let mut letters: Vec<u8> = (0..1 + self.below(8)).map(|_| self.letter()).collect();
+        let mut letters = match self.below(4) {
+            // Those of `unused`.
+            0 => b"densu".to_vec(),
+            _ => vec![self.letter()],
+        };
+        for _ in 0..self.below(9 - letters.len()) {
+            letters.push(self.letter());
+        }
         letters.sort_unstable();
         letters.dedup();
         let mut book = b"TPB\x00\x01".to_vec();
@@ -27,7 +37,7 @@ impl Random {
         let templates = 1 + self.below(16);
         book.push(templates as u8);
         for _ in 0..templates {
-            self.template(letters.len(), &mut book);
+            self.template(&letters, &mut book);
         }
         book
     }
@@ -40,22 +50,27 @@ impl Random {
         }
     }
 
-    fn template(&mut self, letters: usize, book: &mut Vec<u8>) {
+    fn template(&mut self, letters: &[u8], book: &mut Vec<u8>) {
         let limits: Vec<u8> = (0..self.below(4)).map(|_| self.below(9) as u8).collect();
-        let (mut symbols, mut wide) = (Vec::new(), 0);
-        for _ in 0..self.below(13) {
+        let number = |letter| letters.iter().position(|&own| own == letter);
+        let word: Option<Vec<usize>> = UNUSED.bytes().map(number).collect();
+        let word = word.filter(|_| self.below(2) == 0).unwrap_or_default();
+        let (mut symbols, mut wide) = (Vec::new(), word.len() as u8);
+        for _ in 0..self.below(13 - word.len()) {
             let (symbol, width) = match self.below(2) {
                 0 if !limits.is_empty() => {
                     let field = self.below(limits.len());
                     (128 + field as u8, limits[field])
                 }
-                _ => (self.below(letters) as u8, 1),
+                _ => (self.below(letters.len()) as u8, 1),
             };
             if wide + width <= 24 {
                 symbols.push(symbol);
                 wide += width;
             }
         }
+        let at = self.below(symbols.len() + 1);
+        symbols.splice(at..at, word.iter().map(|&number| number as u8));
         book.push(limits.len() as u8);
         book.extend(&limits);
         book.push(symbols.len() as u8);
