@@ -101,7 +101,8 @@ a rule can say so. This writes them as a sheet:
 /// What `apart` rests on.
 const REASONS: &str = "\
 What `apart` rests on:
-- The engine's source is proved, for every accepted book, to list all pairs that clash, and no others.
+- The engine's source is proved, for every accepted book, to list all pairs that clash, and no others
+  (lists-the-clashes in crates/calls/proofs/BookOfTemplates.antt).
 - Longer texts and other templates are not covered.
 - This tool is not proved. The templates above are read back from the book's bytes: compare them with yours.
   docs/APART.md tells what is proved, tested and assumed.";
