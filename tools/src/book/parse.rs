@@ -6,8 +6,8 @@
 //!     template y (zone 2, shop 4) = A{shop}        limits may also be given before, for fields in another order
 //!
 //! Fields are numbered in the order of their limits. Spaces, comments and backslashes are as in the text form of a sheet, but `unused` is the
-//! word only where it stands whole, with a space before it and a space, a `{` or the end of the line after it. Else it is six letters: `u nused`
-//! is. What a book may have is not judged here: the engine does that.
+//! word only where it stands whole, with a space before it and a space, a `{` or the end of the line after it. Else it is six letters, as in
+//! `u nused`. What a book may have is not judged here: the engine does that.
 
 use super::form::{Form, Template};
 use super::places::{Places, TemplatePlaces};
