@@ -1,9 +1,6 @@
-// The list of a book: which of its templates clash. Of every two the question is written as a sheet and settled, without an order, since the verdict alone
-// counts; what was asked before of the same templates is looked up. The list is made in a buffer of its own, so that nothing is written to the lent one before it is known to be long enough.
-use book_question::MOST_QUESTION;
-use book_question::put_question;
-use book_repeats::first_alike;
-use book_repeats::listed;
+// The list of a book: which of its templates clash, each two asked by `book_ask`. The list is made in a buffer of its own, so that nothing is written to the lent
+// one before it is known to be long enough.
+use book_ask::settled;
 use scan::stretch;
 use words::put;
 ghost use mathlib.Core.Path.{_≡_};
@@ -16,7 +13,7 @@ ghost use Rattle.book.specs.Book.{bookOf, Admitted};
 ghost use Rattle.book.specs.Pairs.{listBytes, rowBytes};
 ghost use Rattle.book.specs.Pairs as model;
 ghost use Rattle.book_list.specs.Answer.{numberOf, compared};
-ghost use Rattle.book_list.specs.Before.{before};
+ghost use Rattle.book_ask.specs.Before.{before};
 
 // What is refused, by document 02's numbers: what reading a book refuses, and 42.
 pub enum Refusal {
@@ -42,33 +39,6 @@ pub fn number(refusal: Refusal) -> u8
 
 // The greatest size of a list: two bytes for each two of 16 templates.
 const MOST_LIST: usize = 240;
-
-// Whether templates i and j clash.
-fn clash(book: &[u8], i: usize, j: usize) -> bool
-    requires { ⌜ Admitted (now book) × (i < length (bookOf (now book) .templates)) × (j < length (bookOf (now book) .templates)) ⌝ }
-    ensures { λ r. ⌜ r ≡ model.clash (bookOf (now (book .entry))) i j ⌝ }
-{
-    let mut question = [0; MOST_QUESTION];
-    let n = put_question(&mut question, book, i, j);
-    let found = solution::solve(stretch(&question, 0, n), false);
-    found.ok
-}
-
-// Whether templates i and j clash, with the list of those before them: where an earlier template is the same as the one or the other, the list tells.
-fn settled(list: &[u8], book: &[u8], i: usize, j: usize) -> bool
-    requires { ⌜ Admitted (now book) × (i < j) × (j < length (bookOf (now book) .templates)) × (now list ≡ before (bookOf (now book)) i j) ⌝ }
-    ensures { λ r. ⌜ r ≡ model.clash (bookOf (now (book .entry))) i j ⌝ }
-{
-    let a = first_alike(book, 0, i);
-    if a < i {
-        return listed(list, a, j);
-    }
-    let b = first_alike(book, i + 1, j);
-    if b < j {
-        return listed(list, i, b);
-    }
-    clash(book, i, j)
-}
 
 // Templates i and j, if they clash, at an offset up to which those before them are listed. Returns the offset past them.
 fn put_pair(list: &mut [u8], at: usize, book: &[u8], i: usize, j: usize) -> usize

@@ -1,4 +1,4 @@
--- `book_list::clash` meets its contract: the question's bytes are a sheet, and what settles it says whether the templates clash. Assumes nothing.
+-- `book_ask::clash` meets its contract: the question's bytes are a sheet, and what settles it says whether the templates clash. Assumes nothing.
 use mathlib.Core.Path.{_≡_, _∙_}
 use native.Mathlib.Omega.{arith}
 use lib.ListN.{replicate}
@@ -7,9 +7,9 @@ use Rattle.model.specs.Sheet.{encode}
 use Rattle.model.proofs.Seams.{front-is, front-fits}
 use Rattle.book.specs.Book.{bookOf}
 use Rattle.book.specs.Pairs.{question}
-use Rattle.book_list.proofs.Laws.{question-admitted, settles-clash}
-use Rattle.book_list.proofs.clash.Statement.{statement}
-use Rattle.book_list.proofs.clash.Tie as tie
+use Rattle.book_ask.proofs.Laws.{question-admitted, settles-clash}
+use Rattle.book_ask.proofs.clash.Statement.{statement}
+use Rattle.book_ask.proofs.clash.Tie as tie
 
 slice-aggregate-put-question : tie.Need-slice-aggregate-put-question
 slice-aggregate-put-question c = search needs

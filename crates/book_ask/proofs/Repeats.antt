@@ -14,7 +14,7 @@ use Rattle.model.proofs.Lists.{by-test, or-false}
 use Rattle.book.specs.Book.{Book, template}
 use Rattle.book.specs.Pairs.{asked, clash, rowBytes}
 use Rattle.book_repeats.specs.Repeats.{hasPair}
-use Rattle.book_list.specs.Before.{before}
+use Rattle.book_ask.specs.Before.{before}
 
 or-assoc : (a b c : Bool) → ((a || b) || c) ≡ (a || (b || c))
 or-assoc true b c = refl

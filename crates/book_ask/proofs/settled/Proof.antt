@@ -1,12 +1,12 @@
--- `book_list::settled` meets its contract: what an earlier template that is the same was listed with, or else the question itself. Assumes nothing.
-use mathlib.Core.Path.{_≡_, refl, sym, ap, _∙_}
+-- `book_ask::settled` meets its contract: what an earlier template that is the same was listed with, or else the question itself. Assumes nothing.
+use mathlib.Core.Path.{refl, ap, _∙_}
 use native.Mathlib.Omega.{arith}
 use borrow.Author.Needs.{needs}
 use Rattle.book.specs.Book.{bookOf}
 use Rattle.book_repeats.specs.Repeats.{hasPair}
-use Rattle.book_list.proofs.Repeats.{earlier-row, same-row, same-clash}
-use Rattle.book_list.proofs.settled.Statement.{statement}
-use Rattle.book_list.proofs.settled.Tie as tie
+use Rattle.book_ask.proofs.Repeats.{earlier-row, same-row, same-clash}
+use Rattle.book_ask.proofs.settled.Statement.{statement}
+use Rattle.book_ask.proofs.settled.Tie as tie
 
 first-alike-requires : tie.Need-first-alike-requires
 first-alike-requires c κs = let s = c .before .before in (s .pre .0, omega arith, omega (arith, s .pre .1, s .pre .2))
