@@ -1,4 +1,4 @@
--- Checking, spelling, counting, writing lines, searching and comparing a book's templates, computed: inputs with their answers, most of the damaged ones with two faults at once,
+-- Checking, spelling, counting, writing lines and files, searching and comparing a book's templates, computed: inputs with their answers, most of the damaged ones with two faults at once,
 -- so that the order of the refusals is a theorem. Assumes nothing.
 use mathlib.Core.Path.{_≡_, refl}
 use mathlib.Core.List.{List, [], _∷_, _++_, map}
@@ -13,8 +13,8 @@ use Rattle.calls.specs.Report.{report, refusedLine, searchPrinted}
 use Rattle.model.specs.Cells.{cells}
 use Rattle.formula.specs.Clause.{terms, leftOut, literals, least, spread, sums, placeIds, locationIds, equationIds, constraintIds, listed, ids}
 use Rattle.formula.specs.Numbering.{kVariables, sVariables, tVariables, variables, number, clause}
-use Rattle.formula.specs.Dimacs.{digits, decimal, problemLine, clauseLine, line}
-use Rattle.calls.specs.Calls.{Answer, refused, finished, checking, spellingOf, spelling, written, searchingOf, searching, counting, writingOf, writing, comparingOf, comparing}
+use Rattle.formula.specs.Dimacs.{digits, decimal, problemLine, clauseLine, line, file, fileSize}
+use Rattle.calls.specs.Calls.{Answer, refused, finished, checking, spellingOf, spelling, written, searchingOf, searching, counting, writingOf, writing, filingOf, filing, comparingOf, comparing}
 use Rattle.model.proofs.Computed.{sheet, P}
 use Rattle.book.specs.Book.{mark, count, someSymbols, aTemplate, someTemplates, body, opens, readBook}
 use Rattle.book.specs.Pairs.{pairs, clashing, listBytes}
@@ -134,9 +134,9 @@ pub later-bytes : written (spelling asked 0 1 (nine 2 1 0 ++ nine 1 1 255) 4) (1
 unfolding startsWith row times sides anEquation aConstraint walk width signed opening read each spell places aText texts filling spellingOf spelling
 later-bytes = refl
 
--- Counting and writing lines of document 01's sheet P.
-pub count-answers : map counting (P ∷ (P ++ (0 ∷ [])) ∷ []) ≡ finished (6 ∷ 8 ∷ 720 ∷ []) ∷ refused 9 ∷ []
-unfolding startsWith row times sides anEquation aConstraint walk width signed opening read each from any keep cells terms leftOut literals least spread sums placeIds locationIds equationIds constraintIds listed ids kVariables sVariables tVariables variables counting
+-- Counting and writing lines of document 01's sheet P, of whose file document 02's No. 4 says: "For sheet P it is 69".
+pub count-answers : map counting (P ∷ (P ++ (0 ∷ [])) ∷ []) ≡ finished (6 ∷ 8 ∷ 69 ∷ []) ∷ refused 9 ∷ []
+unfolding startsWith row times sides anEquation aConstraint walk width signed opening read each from any keep total cells terms leftOut literals least spread sums placeIds locationIds equationIds constraintIds listed ids kVariables sVariables tVariables variables number clause digits decimal problemLine clauseLine line fileSize counting
 count-answers = refl
 
 pub record Line : Type 0 where
@@ -161,6 +161,24 @@ lines =
 pub line-answers : map (λ (c : Line). writing (c .on) (c .number) (c .room)) lines ≡ map (λ (c : Line). c .answer) lines
 unfolding startsWith row times sides anEquation aConstraint walk width signed opening read each from any keep total cells terms leftOut literals least spread sums placeIds locationIds equationIds constraintIds listed ids kVariables sVariables tVariables variables number clause digits decimal problemLine clauseLine line writingOf writing
 line-answers = refl
+
+-- its whole file, of 69 bytes: in a buffer of so many, in a longer one, in one that is a byte too short; and the sheet's refusal, with the buffer's
+abbrev fileP : List ℕ
+fileP =
+    112 ∷ 32 ∷ 99 ∷ 110 ∷ 102 ∷ 32 ∷ 54 ∷ 32 ∷ 56 ∷ 10
+    ∷ 49 ∷ 32 ∷ 50 ∷ 32 ∷ 48 ∷ 10
+    ∷ 45 ∷ 49 ∷ 32 ∷ 45 ∷ 50 ∷ 32 ∷ 48 ∷ 10
+    ∷ 51 ∷ 32 ∷ 48 ∷ 10
+    ∷ 45 ∷ 51 ∷ 32 ∷ 45 ∷ 50 ∷ 32 ∷ 53 ∷ 32 ∷ 48 ∷ 10
+    ∷ 45 ∷ 51 ∷ 32 ∷ 50 ∷ 32 ∷ 54 ∷ 32 ∷ 48 ∷ 10
+    ∷ 45 ∷ 52 ∷ 32 ∷ 45 ∷ 50 ∷ 32 ∷ 54 ∷ 32 ∷ 48 ∷ 10
+    ∷ 45 ∷ 52 ∷ 32 ∷ 50 ∷ 32 ∷ 48 ∷ 10
+    ∷ 45 ∷ 53 ∷ 32 ∷ 48 ∷ 10
+    ∷ []
+
+pub file-answers : filing P 69 ∷ filing P 100 ∷ filing P 68 ∷ filing P 0 ∷ filing (P ++ (0 ∷ [])) 68 ∷ [] ≡ finished fileP ∷ finished fileP ∷ refused 29 ∷ refused 29 ∷ refused 9 ∷ []
+unfolding startsWith row times sides anEquation aConstraint walk width signed opening read each from any keep total cells terms leftOut literals least spread sums placeIds locationIds equationIds constraintIds listed ids kVariables sVariables tVariables variables number clause digits decimal problemLine clauseLine line file filingOf filing
+file-answers = refl
 
 -- Searching: 1 for a clash, and the first filling that clashes; 0 for apart.
 pub record Search : Type 0 where

@@ -16,7 +16,7 @@ use Rattle.model.specs.Order.{firstSolution}
 use Rattle.model.specs.Filling.{encodeFilling}
 use Rattle.formula.specs.Clause.{ids, idAt}
 use Rattle.formula.specs.Numbering.{variables, number, clause}
-use Rattle.formula.specs.Dimacs.{decimal, valueOf, problemLine, line, numbers, file, allowance}
+use Rattle.formula.specs.Dimacs.{decimal, valueOf, problemLine, line, numbers, fileSize}
 use Rattle.formula.specs.Assignment.{Assignment, Satisfies, spelled}
 use Rattle.calls.specs.Reply.{Lists}
 use Rattle.calls.specs.Calls.{Answer, refused, finished, reading, verdict, checking, spelling, Writes, searching, Decides, counting, writing, HandsOver, replying}
@@ -29,7 +29,7 @@ use Rattle.calls.proofs.Operations.{not-finished, writing-line, countin
 use Rattle.calls.proofs.Passed.{verdict-same, FillingOf, answered, checking-decides, passed-solves, solves-passed, spelled-text}
 use Rattle.formula.proofs.Numbering.{numbering, variable-count}
 use Rattle.formula.proofs.Figures.{decimal-value}
-use Rattle.formula.proofs.Lines.{numbers-line, file-fits}
+use Rattle.formula.proofs.Lines.{numbers-line}
 use Rattle.model.proofs.Solvable.{solvable-in, solvable-out, none-unsolvable}
 use Rattle.calls.proofs.Searching as searches
 use Rattle.formula.proofs.Satisfiable as clauses
@@ -68,7 +68,7 @@ in-order {rules} {answer} o = record {
         let z : k ≡ n = cc in
         subst (λ i. First i rules) z f
 
-written-unchanged : (a : Answer) {before after : List ℕ} {answer : Answer} → Writes a before answer after → Unchanged answer before after
+pub written-unchanged : (a : Answer) {before after : List ℕ} {answer : Answer} → Writes a before answer after → Unchanged answer before after
 written-unchanged (refused k) w n q = w .1
 written-unchanged (finished vs) w n q = not-finished (sym q ∙ w .0)
 
@@ -154,12 +154,9 @@ module _ (b : List ℕ) (y : Bytes b) where
   pub counts-are-true : Accepted b
       → let s = sheetOf b in
       let v = length (variables s) in
-      (counting b ≡ finished (v ∷ length (ids s) ∷ allowance s ∷ [])) × (line s 0 ≡ problemLine v (length (ids s))) × (map (number s) (variables s) ≡ from 1 v)
+      (counting b ≡ finished (v ∷ length (ids s) ∷ fileSize s ∷ [])) × (line s 0 ≡ problemLine v (length (ids s))) × (map (number s) (variables s) ≡ from 1 v)
   unfolding line
   counts-are-true ok = (counting-counts b ok, refl, numbering (sheetOf b) ∙ ap (from 1) (sym (variable-count (sheetOf b))))
-
-  pub allowance-is-enough : Accepted b → length (file (sheetOf b)) ≤ allowance (sheetOf b)
-  allowance-is-enough ok = file-fits (sheetOf b) (accepted-in-range b y ok)
 
 -- line n + 1 is clause n + 1: its bytes list the clause's numbers, and then 0; and a number that is printed is said by its figures
 pub clause-lines-list-the-clauses : (s : Sheet) (n : ℕ) → numbers (line s (suc n)) ≡ clause s (idAt s n) ++ (pos 0 ∷ [])

@@ -13,12 +13,13 @@ use Rattle.model.specs.Sheet as sheet
 use Rattle.model.specs.Sheet.{Sheet, Step, got, fault, _then_, must, Role, letterByte, limitByte, countByte, templateByte, coefficientByte, mostByte, passes, refusalOf, width, row, times, sides, anEquation, aConstraint, walk, opening, byte, Counts, countsAt, ended, read, countsOf, sheetOf}
 use Rattle.model.specs.Word.{Substitution, solves}
 use Rattle.model.specs.Filling.{places, aText, texts, filling, encodeFilling, substitutionIn}
-use Rattle.formula.specs.Dimacs.{line}
+use Rattle.formula.specs.Dimacs.{line, file}
 use Rattle.formula.specs.Assignment.{spelled}
 use Rattle.calls.specs.Reply.{assigned}
-use Rattle.calls.specs.Calls.{Answer, refused, finished, ofSheet, ofFilling, require, fourCounts, reading, verdict, checking, spelledText, spellingOf, spelling, searchValues, searchingOf, searching, decision, clauseCounts, counting, writingOf, writing, formed, decoding, replyingOf, replying, sized, unnumbered}
-use Rattle.calls.specs.Rules.{Rule, _asks_, rowRules, severalRules, past, symbolsAt, sidesRules, equationRules, equationBytes, constraintRules, constraintsAt, endAt, walkRules, openingRules, sheetRules, placeRules, textRules, fillingRules, afterSheet, spellingRules, roomRule, writingRules, replyingRules}
+use Rattle.calls.specs.Calls.{Answer, refused, finished, ofSheet, ofFilling, require, fourCounts, reading, verdict, checking, spelledText, spellingOf, spelling, searchValues, searchingOf, searching, decision, clauseCounts, counting, writingOf, writing, filingOf, filing, formed, decoding, replyingOf, replying, sized, unnumbered}
+use Rattle.calls.specs.Rules.{Rule, _asks_, rowRules, severalRules, past, symbolsAt, sidesRules, equationRules, equationBytes, constraintRules, constraintsAt, endAt, walkRules, openingRules, sheetRules, placeRules, textRules, fillingRules, afterSheet, spellingRules, roomRule, writingRules, filingRule, replyingRules}
 use Rattle.model.proofs.Lists.{by-test}
+use Rattle.formula.proofs.Lines.{file-size}
 use Rattle.calls.proofs.Ordered.{inOrder, order-through, order-append, kept-goes, first-fails, Ordered, ordered-after, Follows, order-then, follows-from, follows-then, follows-wrapped, follows-got, follows-must}
 
 -- A sheet.
@@ -205,6 +206,10 @@ counting-ordered b = sheet-alone b clauseCounts
 pub writing-ordered : (b : List ℕ) (n room : ℕ) → Ordered (afterSheet b (writingRules n room)) (writing b n room)
 unfolding writing writingOf writingRules inOrder
 writing-ordered b n room = after-sheet b _ (writingRules n room) (λ s. record { values = line s n; is = refl })
+
+pub filing-ordered : (b : List ℕ) (room : ℕ) → Ordered (afterSheet b (λ s. filingRule room s ∷ [])) (filing b room)
+unfolding filing filingOf inOrder
+filing-ordered b room = after-sheet b _ (λ s. filingRule room s ∷ []) (λ s. record { values = file s; is = rw (← file-size s) })
 
 pub replying-ordered : (b t : List ℕ) (room : ℕ) → Ordered (afterSheet b (replyingRules t room)) (replying b t room)
 unfolding replying replyingOf formed decoding replyingRules inOrder

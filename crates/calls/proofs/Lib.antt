@@ -13,11 +13,13 @@ pub mod Decoded
 pub mod Replying
 pub mod Untrusted
 pub mod Ordered
+pub mod Filing
 pub mod FirstRefusals
 pub mod BookRefusals
 pub mod Demands
 pub mod FirstClash
 pub mod TickedOff
 pub mod BookOfTemplates
+pub mod FileSize
 pub mod Listings
 pub mod Printing

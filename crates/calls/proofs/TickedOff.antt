@@ -15,7 +15,7 @@ use Rattle.formula.specs.Clause.{cell, stays, ids, locationIds, sums, blank, fi
 use Rattle.formula.specs.Kind.{Side, used, cellSide, side, Kind, sameLetterTwice, differentLetters, letterThenField, fieldThenLetter, twoFields, usedUpBeforeLetter, usedUpBeforeField, bothUsedUp, kind, kindCount, kindAt, locationsOf}
 use Rattle.formula.specs.Count.{notBothCount}
 use Rattle.formula.specs.Numbering.{variables}
-use Rattle.formula.specs.Dimacs.{allowance}
+use Rattle.formula.specs.Dimacs.{fileSize}
 use Rattle.calls.specs.Calls.{finished, counting}
 use Rattle.model.proofs.Templates.{well-formed}
 use Rattle.model.proofs.Known.{accepted-in-range}
@@ -121,7 +121,7 @@ module _ (b : List ℕ) (y : Bytes b) (ok : Accepted b) where
       let s = sheetOf b in
       let l = blank s in
       let n = locationsOf s in
-      (counting b ≡ finished (length (variables s) ∷ length (ids s) ∷ allowance s ∷ []))
+      (counting b ≡ finished (length (variables s) ∷ length (ids s) ∷ fileSize s ∷ []))
       × (length (ids s)
       ≡ total (fields s) (λ f. total (limit s f) (λ c. 1 + (notBothCount l + pick (ltb (suc c) (limit s f)) 1 0)))
       + (total (length (s .equations)) (λ p. 1

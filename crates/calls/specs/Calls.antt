@@ -17,7 +17,7 @@ use Rattle.book.specs.Book.{Book, readBook}
 use Rattle.book.specs.Pairs.{clashing, listBytes}
 use Rattle.formula.specs.Clause.{ids}
 use Rattle.formula.specs.Numbering.{variables}
-use Rattle.formula.specs.Dimacs.{line, allowance}
+use Rattle.formula.specs.Dimacs.{line, file, fileSize}
 use Rattle.formula.specs.Assignment.{Assignment, spelled}
 use Rattle.calls.specs.Reply.{lines, lineEnded, known, oneStatus, given, closed, inCount, givenOnce, assigned, allSingle, noneAfterBlank}
 
@@ -113,9 +113,10 @@ following (finished values) = finished (drop 1 values)
 abbrev pub Decides : Answer → List ℕ → Answer → List ℕ → Type 0
 Decides a before answer after = (answer ≡ decision a) × (after ≡ written (following a) before)
 
--- Counting: "no refusal of its own. The answer is the variable count, the clause count C, and the size allowance (C+1) × 80".
+-- Counting: "no refusal of its own. The answer is the variable count, the clause count C," and the file's size (document 02, No. 4: "The size is now to be
+-- exactly the sum of all line lengths").
 abbrev pub clauseCounts : Sheet → List ℕ
-clauseCounts s = length (variables s) ∷ length (ids s) ∷ allowance s ∷ []
+clauseCounts s = length (variables s) ∷ length (ids s) ∷ fileSize s ∷ []
 
 unfoldable pub counting : List ℕ → Answer
 counting b = ofSheet (read b) (λ s. finished (clauseCounts s))
@@ -129,6 +130,13 @@ writingOf s n room =
 
 unfoldable pub writing : List ℕ → ℕ → ℕ → Answer
 writing b n room = ofSheet (read b) (λ s. writingOf s n room)
+
+-- Writing the whole file, lines 0 to C one after the other: as writing a line, with 29 for a buffer shorter than the file.
+unfoldable pub filingOf : Sheet → ℕ → Answer
+filingOf s room = require (leb (length (file s)) room) 29 (finished (file s))
+
+unfoldable pub filing : List ℕ → ℕ → Answer
+filing b room = ofSheet (read b) (λ s. filingOf s room)
 
 -- Reading a reply: "27; 30 ..; then each test over the whole text in number order." 31 to 36 are of the text and the number
 -- of variables, 37 to 39 of the assignment that it lists.

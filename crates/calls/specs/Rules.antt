@@ -16,7 +16,7 @@ use Rattle.book.specs.Book.{bookOf}
 use Rattle.book.specs.Pairs.{listBytes}
 use Rattle.formula.specs.Clause.{ids}
 use Rattle.formula.specs.Numbering.{variables}
-use Rattle.formula.specs.Dimacs.{line}
+use Rattle.formula.specs.Dimacs.{line, fileSize}
 use Rattle.formula.specs.Assignment.{spelled}
 use Rattle.calls.specs.Reply.{lines, lineEnded, known, oneStatus, given, closed, inCount, givenOnce, assigned, allSingle, noneAfterBlank}
 use Rattle.calls.specs.Calls.{spelledText, inSize}
@@ -146,6 +146,10 @@ roomRule room s = 27 asks leb (9 * length (s .limits)) room
 -- "Writing line n: 28 n above C; 29 buffer shorter than the line."
 unfoldable pub writingRules : ℕ → ℕ → Sheet → List Rule
 writingRules n room s = (28 asks leb n (length (ids s))) ∷ (29 asks leb (length (line s n)) room) ∷ []
+
+-- 29 of the whole file: "buffer shorter than" all its lines together
+abbrev pub filingRule : ℕ → Sheet → Rule
+filingRule room s = 29 asks leb (fileSize s) room
 
 -- "Reading a reply: 27; 30 over 65,536 bytes; then each test over the whole text in number order."
 unfoldable pub replyingRules : List ℕ → ℕ → Sheet → List Rule

@@ -1,5 +1,5 @@
--- Clause files, computed: of some sheets every clause as numbers, how many variables, clauses and locations of each kind there are; and of document 01's
--- sheet P the file's bytes. The numbers were worked out by another program from document 01 alone. Assumes nothing.
+-- Clause files, computed: of some sheets every clause as numbers, how many variables, clauses and locations of each kind there are, and the file's size; of
+-- document 01's sheet P also the file's bytes. The numbers were worked out by another program from document 01 alone. Assumes nothing.
 use mathlib.Core.Path.{_≡_, refl}
 use mathlib.Core.List.{List, [], _∷_, map}
 use Prim.Native.Nat.{ℕ}
@@ -12,16 +12,18 @@ use Rattle.formula.specs.Clause.{terms, leftOut, literals, least, spread
 use Rattle.formula.specs.Kind.{sameLetterTwice, differentLetters, letterThenField, fieldThenLetter, twoFields, usedUpBeforeLetter, usedUpBeforeField, bothUsedUp, locationsOf}
 use Rattle.formula.specs.Count.{addedUp}
 use Rattle.formula.specs.Numbering.{kVariables, sVariables, tVariables, variables, number, clause}
-use Rattle.formula.specs.Dimacs.{digits, decimal, problemLine, clauseLine, line, file}
+use Rattle.formula.specs.Dimacs.{digits, decimal, problemLine, clauseLine, line, file, fileSize}
 
 abbrev pub minus : ℕ → ℤ
 minus n = negℤ (pos n)
 
--- a sheet, how many variables and clauses it has, how many locations of each kind its equations have, in the order of document 02's No. 2, and its clauses
+-- a sheet, how many variables and clauses it has, how many bytes its file, how many locations of each kind its equations have, in the order of document 02's
+-- No. 2, and its clauses
 pub record ClauseFile : Type 0 where
   pub sheet : Sheet
   pub variable-count : ℕ
   pub clause-count : ℕ
+  pub bytes : ℕ
   pub kinds : List (List ℕ)
   pub clauses : List (List ℤ)
 
@@ -36,6 +38,7 @@ clauseFiles =
       sheet = P;
       variable-count = 6;
       clause-count = 8;
+      bytes = 69;
       kinds = (0 ∷ 0 ∷ 0 ∷ 1 ∷ 0 ∷ 1 ∷ 1 ∷ 1 ∷ []) ∷ [];
       clauses =
           (pos 1 ∷ pos 2 ∷ []) ∷ (minus 1 ∷ minus 2 ∷ []) ∷ (pos 3 ∷ []) ∷ (minus 3 ∷ minus 2 ∷ pos 5 ∷ [])
@@ -51,6 +54,7 @@ clauseFiles =
       };
       variable-count = 27;
       clause-count = 46;
+      bytes = 479;
       kinds = (0 ∷ 0 ∷ 0 ∷ 0 ∷ 2 ∷ 0 ∷ 3 ∷ 1 ∷ []) ∷ [];
       clauses =
           (pos 1 ∷ pos 2 ∷ pos 3 ∷ []) ∷ (minus 1 ∷ minus 2 ∷ []) ∷ (minus 1 ∷ minus 3 ∷ []) ∷ (minus 2 ∷ minus 3 ∷ [])
@@ -80,6 +84,7 @@ clauseFiles =
       };
       variable-count = 12;
       clause-count = 23;
+      bytes = 220;
       kinds = (1 ∷ 0 ∷ 1 ∷ 1 ∷ 1 ∷ 2 ∷ 2 ∷ 1 ∷ []) ∷ [];
       clauses =
           (pos 1 ∷ pos 2 ∷ pos 3 ∷ []) ∷ (minus 1 ∷ minus 2 ∷ []) ∷ (minus 1 ∷ minus 3 ∷ []) ∷ (minus 2 ∷ minus 3 ∷ [])
@@ -100,6 +105,7 @@ clauseFiles =
       };
       variable-count = 37;
       clause-count = 47;
+      bytes = 398;
       kinds = (0 ∷ 0 ∷ 0 ∷ 0 ∷ 0 ∷ 0 ∷ 2 ∷ 1 ∷ []) ∷ (2 ∷ 4 ∷ 0 ∷ 0 ∷ 0 ∷ 5 ∷ 0 ∷ 1 ∷ []) ∷ [];
       clauses =
           (pos 1 ∷ pos 2 ∷ pos 3 ∷ pos 4 ∷ []) ∷ (minus 1 ∷ minus 2 ∷ []) ∷ (minus 1 ∷ minus 3 ∷ []) ∷ (minus 1 ∷ minus 4 ∷ [])
@@ -125,6 +131,7 @@ clauseFiles =
       };
       variable-count = 5;
       clause-count = 6;
+      bytes = 40;
       kinds = (1 ∷ 0 ∷ 0 ∷ 0 ∷ 0 ∷ 2 ∷ 0 ∷ 1 ∷ []) ∷ [];
       clauses =
           (pos 1 ∷ []) ∷ (minus 1 ∷ pos 4 ∷ []) ∷ (minus 2 ∷ []) ∷ (minus 3 ∷ []) ∷ (pos 5 ∷ []) ∷ (minus 5 ∷ []) ∷ [];
@@ -139,6 +146,7 @@ clauseFiles =
       };
       variable-count = 10;
       clause-count = 8;
+      bytes = 71;
       kinds = (0 ∷ 0 ∷ 0 ∷ 0 ∷ 0 ∷ 0 ∷ 0 ∷ 1 ∷ []) ∷ [];
       clauses =
           (pos 1 ∷ pos 2 ∷ pos 3 ∷ []) ∷ (minus 1 ∷ minus 2 ∷ []) ∷ (minus 1 ∷ minus 3 ∷ []) ∷ (minus 2 ∷ minus 3 ∷ [])
@@ -154,6 +162,7 @@ clauseFiles =
       };
       variable-count = 28;
       clause-count = 39;
+      bytes = 376;
       kinds = (0 ∷ 0 ∷ 0 ∷ 4 ∷ 0 ∷ 1 ∷ 4 ∷ 1 ∷ []) ∷ [];
       clauses =
           (pos 1 ∷ pos 2 ∷ pos 3 ∷ []) ∷ (minus 1 ∷ minus 2 ∷ []) ∷ (minus 1 ∷ minus 3 ∷ []) ∷ (minus 2 ∷ minus 3 ∷ [])
@@ -179,6 +188,7 @@ clauseFiles =
       };
       variable-count = 9;
       clause-count = 10;
+      bytes = 65;
       kinds = (2 ∷ 1 ∷ 0 ∷ 0 ∷ 0 ∷ 4 ∷ 0 ∷ 1 ∷ []) ∷ [];
       clauses =
           (pos 1 ∷ []) ∷ (minus 1 ∷ pos 6 ∷ []) ∷ (minus 2 ∷ pos 7 ∷ []) ∷ (minus 3 ∷ pos 8 ∷ []) ∷ (minus 3 ∷ []) ∷ (minus 4 ∷ [])
@@ -194,6 +204,7 @@ clauseFiles =
       };
       variable-count = 4;
       clause-count = 5;
+      bytes = 35;
       kinds = (0 ∷ 0 ∷ 0 ∷ 0 ∷ 0 ∷ 1 ∷ 0 ∷ 1 ∷ []) ∷ [];
       clauses =
           (pos 1 ∷ []) ∷ (minus 1 ∷ []) ∷ (pos 3 ∷ []) ∷ (minus 3 ∷ pos 4 ∷ []) ∷ (minus 4 ∷ []) ∷ [];
@@ -229,6 +240,11 @@ pub all-kinds :
     map (λ (c : ClauseFile). map (kindsOf (c .sheet)) (upTo (length (c .sheet .equations)))) clauseFiles ≡ map (λ (c : ClauseFile). c .kinds) clauseFiles
 unfolding each from total cells
 all-kinds = refl
+
+-- The size of each file; "For sheet P it is 69".
+pub all-sizes : map (λ (c : ClauseFile). fileSize (c .sheet)) clauseFiles ≡ map (λ (c : ClauseFile). c .bytes) clauseFiles
+unfolding each from any keep total cells terms leftOut literals least spread sums placeIds locationIds equationIds constraintIds listed ids number clause kVariables sVariables tVariables variables digits decimal problemLine clauseLine line fileSize
+all-sizes = refl
 
 -- the clause program's nine lines for sheet P
 pub file-P : file P ≡

@@ -1,5 +1,5 @@
 -- The lines of the clause file: the numbers that a clause's line lists are the clause and then 0, no number of a clause is 0, and no line is
--- longer than 80 bytes, so that the file is within its allowance. Assumes nothing.
+-- longer than 80 bytes; and the file is as long as its lines together. Assumes nothing.
 use mathlib.Core.Path.{_≡_, refl, sym, ap, ap₂, _∙_}
 use mathlib.Core.Bool.{Bool, true, false}
 use mathlib.Core.List.{List, [], _∷_, _++_, map, append-assoc}
@@ -15,12 +15,12 @@ use Rattle.model.specs.Range.{InRange}
 use Rattle.formula.specs.Clause.{Literal, is, isnt, Term, known, unknown, ClauseId, SomeValue, NotBoth, BlankTail, Start, Left, Right, Both, Match, End, Zero, Add, Bound, terms, literalOf, literals, ids, idAt, blank, yes, K, none}
 use Rattle.formula.specs.Numbering.{signedNumber, number, clause, variables, variableCount}
 use Rattle.formula.specs.Count.{IdIn}
-use Rattle.formula.specs.Dimacs.{decimal, problemLine, literalBytes, clauseLine, line, file, allowance, mostFile, withSign, numbersFrom, numbers, valueFrom}
+use Rattle.formula.specs.Dimacs.{decimal, problemLine, literalBytes, clauseLine, line, file, fileSize, mostFile, withSign, numbersFrom, numbers, valueFrom}
 use Rattle.formula.proofs.Named.{ids-in}
 use Rattle.formula.proofs.Totals.{clause-count}
 use Rattle.model.proofs.Lists.{at, weaken, map-in, each-in, or-false}
 use Rattle.model.proofs.Sums.{abs-neg}
-use Rattle.model.proofs.Keeping.{length-from, below-in, each-most, each-short}
+use Rattle.model.proofs.Keeping.{length-from, below-in, each-most, each-short, length-loop}
 use Rattle.formula.proofs.Numbering.{variable-count, positive, value-small, number-small}
 use Rattle.formula.proofs.Small.{letters-few, k-small, variables-small, clauses-small}
 use Rattle.formula.proofs.Figures.{Figure, decimal-digits, decimal-value, decimal-short, decimal-short-three, decimal-short-four}
@@ -166,7 +166,7 @@ pub first-line : (s : Sheet) (v c : ℕ) → v ≡ variableCount s → c ≡ len
 unfolding line
 first-line s v c e f = ap₂ problemLine (e ∙ sym (variable-count s)) f
 
--- A line has at most 38 bytes, and so at most 80: "the size allowance (C+1) × 80" is "at least the file's bytes".
+-- A line has at most 38 bytes, and so at most 80, the room that is made for one.
 line-narrow : (s : Sheet) → InRange s → (n : ℕ) → n ≤ length (ids s) → length (line s n) ≤ 38
 unfolding line
 line-narrow s ok zero h =
@@ -181,9 +181,10 @@ line-narrow s ok (suc n) h = clause-short s ok (idAt s n) (at (IdIn s) (ids s) n
 pub line-short : (s : Sheet) → InRange s → (n : ℕ) → n ≤ length (ids s) → length (line s n) ≤ 80
 line-short s ok n h = let l = line-narrow s ok n h in omega arith
 
-pub file-fits : (s : Sheet) → InRange s → length (file s) ≤ allowance s
-unfolding file
-file-fits s ok = each-short (line s) 80 (suc (length (ids s))) (λ i l. line-short s ok i (omega arith))
+-- The size is the length of the file.
+pub file-size : (s : Sheet) → fileSize s ≡ length (file s)
+unfolding file fileSize
+file-size s = sym (length-loop (line s) (suc (length (ids s))) (λ n. length (line s n)) (λ n l. refl))
 
 -- The greatest size of a file.
 pub file-small : (s : Sheet) → InRange s → length (file s) ≤ mostFile

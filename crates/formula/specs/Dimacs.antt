@@ -5,7 +5,7 @@ use Prim.Native.Nat.{ℕ, zero, suc, _+_, _-_, _*_, _/_, _%_}
 use lib.Dec.{ltb, eqb}
 use lib.IntN.{ℤ, pos, negsuc, negℤ}
 use lib.ListN.{length}
-use Rattle.model.specs.Lists.{pick, each, upTo, when}
+use Rattle.model.specs.Lists.{pick, each, upTo, when, total}
 use Rattle.model.specs.Sheet.{Sheet}
 use Rattle.formula.specs.Clause.{ids, idAt}
 use Rattle.formula.specs.Numbering.{variables, clause}
@@ -50,12 +50,13 @@ unfoldable pub line : Sheet → ℕ → List ℕ
 line s zero = problemLine (length (variables s)) (length (ids s))
 line s (suc n) = clauseLine (clause s (idAt s n))
 
--- The file, lines 0 to C; and "the size allowance (C+1) × 80, at least the file's bytes".
+-- The file, lines 0 to C.
 unfoldable pub file : Sheet → List ℕ
 file s = each (upTo (suc (length (ids s)))) (line s)
 
-abbrev pub allowance : Sheet → ℕ
-allowance s = suc (length (ids s)) * 80
+-- Document 02, No. 4: "The size is now to be exactly the sum of all line lengths".
+unfoldable pub fileSize : Sheet → ℕ
+fileSize s = total (suc (length (ids s))) (λ n. length (line s n))
 
 -- The greatest size of a file: at most 47,600 clauses and line 0, each of at most 38 bytes.
 abbrev pub mostFile : ℕ
