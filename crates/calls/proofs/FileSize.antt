@@ -23,6 +23,8 @@ use Rattle.formula.proofs.Lines.{line-short, file-size}
 use Rattle.calls.proofs.Operations.{not-finished, counting-counts, writing-line}
 use Rattle.calls.proofs.Filing.{filing-room, filing-file}
 use Rattle.calls.proofs.Printing.{clauses-accepted}
+use Rattle.model.proofs.Computed.{P}
+use Rattle.calls.proofs.Answers.{count-answers}
 use Rattle.calls.proofs.Demands.{InOrder, Unchanged, in-order, written-unchanged}
 use Rattle.calls.proofs.FirstRefusals.{filing-ordered, sized-ordered}
 
@@ -32,6 +34,14 @@ onlyNumber (finished (n ∷ [])) = n
 onlyNumber (finished []) = 0
 onlyNumber (finished (n ∷ k ∷ others)) = 0
 onlyNumber (refused n) = 0
+
+-- "For sheet P it is 69"
+abbrev firstAnswer : List Answer → Answer
+firstAnswer [] = refused 0
+firstAnswer (a ∷ others) = a
+
+pub for-sheet-P : counting P ≡ finished (6 ∷ 8 ∷ 69 ∷ [])
+for-sheet-P = ap firstAnswer count-answers
 
 module _ (b : List ℕ) (y : Bytes b) (ok : Accepted b) where
   -- "The size is now to be exactly the sum of all line lengths": counting's third value; of the lines that document 01 defines, and as `writing` answers them
@@ -57,12 +67,11 @@ module _ (b : List ℕ) (y : Bytes b) (ok : Accepted b) where
   -- The whole file in one call: a buffer of that size is long enough, and no shorter one is.
   pub too-short-exactly : (room : ℕ) → (filing b room ≡ refused 29) ↔ (room < fileSize (sheetOf b))
   too-short-exactly room =
-      let e = file-size (sheetOf b) in
-      (
-      (λ q. by-test (ltb room (fileSize (sheetOf b)))
-          (λ t. ltb-true room _ t)
-          (λ t. let h = ltb-false room _ t in not-finished (sym q ∙ filing-file b room ok (omega arith)))),
-      λ h. filing-room b room ok (omega arith),
+      let e = file-size (sheetOf b) in (
+        (λ q. by-test (ltb room (fileSize (sheetOf b)))
+            (λ t. ltb-true room _ t)
+            (λ t. let h = ltb-false room _ t in not-finished (sym q ∙ filing-file b room ok (omega arith)))),
+        λ h. filing-room b room ok (omega arith),
       )
 
   -- it then has lines 0 to C one after the other, and later bytes are unchanged; the answer is the size

@@ -2,6 +2,7 @@
 use mathlib.Core.List.{List, [], _∷_, _++_}
 use Prim.Native.Nat.{ℕ, _+_, _*_, _/_, _%_}
 use lib.Dec.{eqb}
+use lib.ListN.{length}
 use Rattle.model.specs.Lists.{pick, each}
 use Rattle.model.specs.Sheet.{Sheet}
 use Rattle.formula.specs.Clause.{Literal, is, isnt, Term, known, unknown}
@@ -26,6 +27,13 @@ codeBytes code = pick (eqb code 0) [] (sign code ++ (decimal (code / 2) ++ (32 �
 
 unfoldable pub codesLine : List ℕ → List ℕ
 codesLine codes = each codes codeBytes ++ (48 ∷ 10 ∷ [])
+
+-- how many bytes that is, of one code and of a line
+abbrev pub codeSize : ℕ → ℕ
+codeSize code = length (codeBytes code)
+
+abbrev pub lineSize : List ℕ → ℕ
+lineSize codes = length (codesLine codes)
 
 -- The greatest code of a variable, of which there are at most 5,648; and a bound for the codes that follow from one by adding.
 abbrev pub mostCode : ℕ

@@ -5,7 +5,7 @@ ghost use Prim.Native.Nat.{_+_, _<_, _≤_};
 ghost use lib.ListN.{length};
 ghost use Rattle.model.specs.Lists.{each, Puts};
 ghost use Rattle.formula.specs.Dimacs.{decimal, problemLine};
-ghost use Rattle.dimacs.specs.Codes.{codeBytes, codesLine};
+ghost use Rattle.dimacs.specs.Codes.{codeBytes, codesLine, codeSize, lineSize};
 
 // The figure of a number below ten, at an offset of the buffer. Returns the offset past it.
 fn figure(buf: &mut [u8], at: usize, n: usize) -> usize
@@ -54,7 +54,7 @@ pub fn print(buf: &mut [u8], at: usize, n: usize) -> usize
 
 // A literal by its code, and the space after it; of code 0 nothing.
 fn put_literal(buf: &mut [u8], at: usize, code: usize) -> usize
-    requires { ⌜ at + length (codeBytes code) ≤ length (now buf) ⌝ }
+    requires { ⌜ at + codeSize code ≤ length (now buf) ⌝ }
     ensures { λ r. ⌜ Puts (now (buf .entry)) at (codeBytes code) (now (buf .exit)) r ⌝ }
 {
     if code == 0 {
@@ -85,7 +85,7 @@ fn put_literals(buf: &mut [u8], at: usize, codes: &[usize]) -> usize
 
 // The line of a clause.
 pub fn clause_line(buf: &mut [u8], at: usize, codes: &[usize]) -> usize
-    requires { ⌜ at + length (codesLine (now codes)) ≤ length (now buf) ⌝ }
+    requires { ⌜ at + lineSize (now codes) ≤ length (now buf) ⌝ }
     ensures { λ r. ⌜ Puts (now (buf .entry)) at (codesLine (now (codes .entry))) (now (buf .exit)) r ⌝ }
 {
     let past = put_literals(buf, at, codes);

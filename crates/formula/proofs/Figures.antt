@@ -80,13 +80,18 @@ decimal-first n h = by-figures (λ n xs. 1 ≤ n → (1 ≤ length xs) × (getD 
     (omega arith, λ q. k .1 (sym (first-append xs ((48 + n % 10) ∷ []) some) ∙ q)))
     n h .1
 
--- how many figures
+-- how many figures: one below ten, and else one more than its tenth
+pub figures-one : (n : ℕ) → n < 10 → length (decimal n) ≡ 1
+figures-one n h = ap length (decimal-one n h)
+
+pub figures-more : (n : ℕ) → 10 ≤ n → length (decimal n) ≡ length (decimal (n / 10)) + 1
+figures-more n h = ap length (decimal-more n h) ∙ length-append (decimal (n / 10)) ((48 + n % 10) ∷ [])
+
 longer : (b k : ℕ) → ((n : ℕ) → n ≤ b → length (decimal n) ≤ k) → (n : ℕ) → n ≤ b * 10 + 9 → length (decimal n) ≤ k + 1
 longer b k h n l = by-test (ltb n 10)
-    (λ e. rw (decimal-one n (ltb-true n 10 e)) (omega arith))
+    (λ e. let m = figures-one n (ltb-true n 10 e) in omega arith)
     (λ e.
-    let m = ap length (decimal-more n (ltb-false n 10 e)) in
-    let a = length-append (decimal (n / 10)) ((48 + n % 10) ∷ []) in
+    let m = figures-more n (ltb-false n 10 e) in
     let q = h (n / 10) (omega arith) in
     omega arith)
 

@@ -308,6 +308,17 @@ pub total-more : (n : ℕ) (h : ℕ → ℕ) → total (n + 1) h ≡ total n h +
 unfolding total
 total-more n h = rw add-one
 
+-- two totals added; a total of totals, the other way round
+pub total-both : (n : ℕ) (h k : ℕ → ℕ) → total n h + total n k ≡ total n (λ x. h x + k x)
+unfolding total
+total-both zero h k = refl
+total-both (suc n) h k = let before = total-both n h k in omega arith
+
+pub total-swap : (n m : ℕ) (h : ℕ → ℕ → ℕ) → total n (λ i. total m (h i)) ≡ total m (λ j. total n (λ i. h i j))
+unfolding total
+total-swap zero m h = let e = total-const m 0 in let z : m * 0 ≡ 0 = omega arith in sym (e ∙ z)
+total-swap (suc n) m h = ap (λ z. z + total m (h n)) (total-swap n m h) ∙ total-both m (λ j. total n (λ i. h i j)) (h n)
+
 -- a total of no more parts, each at most as great
 pub total-grows : (n m : ℕ) (h g : ℕ → ℕ) → n ≤ m → ((i : ℕ) → i < n → h i ≤ g i) → total n h ≤ total m g
 unfolding total
