@@ -13,10 +13,10 @@ use Rattle.model.specs.Range.{InRange}
 use Rattle.model.specs.Cells.{Cell, letter, place, cells}
 use Rattle.formula.specs.Clause.{K, S, blank, cell, leftCells, rightCells}
 use Rattle.formula.specs.Numbering.{number}
-use Rattle.formula.specs.Kind.{side}
+use Rattle.formula.specs.Kind.{used, atField, cellSide, side}
 use Rattle.model.proofs.Lists.{by-test}
 use Rattle.model.proofs.Keeping.{map-from-at, loop-same}
-use Rattle.formula.proofs.Numbering.{number-small}
+use Rattle.formula.proofs.Numbering.{positive, number-small}
 use Rattle.formula.proofs.Small.{letters-few, cells-small, variables-small}
 use Rattle.formula.proofs.Standing.{sides-in}
 use Rattle.model.proofs.Templates.{well-formed}
@@ -108,6 +108,24 @@ module _ (s : Sheet) (ok : InRange s) (p : ℕ) (hp : p < length (s .equations))
       at-right = λ j h. rw (at-code 1 ys are-right j (few-right j h)) (omega (arith, cell-few 1 j));
       sides = λ j h. rw (right-side j h, el) (sides-in s (well-formed s ok) p hp i j .1);
     }
+
+    -- a place on the right has a code
+    pub row-places : (j : ℕ) → j < n → sideOf (getD right j 0) ≡ atField → 0 < getD ys j 0
+    unfolding cellCode
+    row-places j h e =
+        let us = rightCells s p in
+        let at : side us j ≡ atField = sym (right-side j h) ∙ e in
+        rw (at-code 1 ys are-right j (few-right j h))
+        (by-test (ltb j (length us))
+        (λ t. rw t (placed (cell us j) (rw t at at)))
+        (λ t. not-field (rw t at at)))
+      where
+        placed : (u : Cell) → cellSide u ≡ atField → 0 < placeCode s u 0 0
+        placed (letter b) q = let z : _≡_ {A = ℕ} 0 1 = cc in absurd (omega arith)
+        placed (place f c) q = omega (arith, positive s (K f c 0))
+
+        not-field : {A : Type 0} → used ≡ atField → A
+        not-field q = let z : _≡_ {A = ℕ} 0 1 = cc in absurd (omega arith)
 
     pub row-told : (rowOf l n here (getD left i 0) (getD xs i 0) right ys ≡ rowLines s p i) × Rowed l n here (getD xs i 0) right ys
     row-told = (row-lines, row-ready)

@@ -45,7 +45,7 @@ fn put_row(
 }
 
 // The codes of value 0 of the places on one side of equation p, and 0 for its letters and past them.
-fn cell_codes(sheet: &[u8], p: usize, side: usize) -> [usize; ROOM]
+pub fn cell_codes(sheet: &[u8], p: usize, side: usize) -> [usize; ROOM]
     requires { ⌜ Admitted (now sheet) × (p < length (sheetOf (now sheet) .equations)) ⌝ }
     ensures { λ r. ⌜ r ≡ map (λ i. cellCode (sheetOf (now (sheet .entry))) (cells (sheetOf (now (sheet .entry))) (template (sheetOf (now (sheet .entry))) p side)) i 0 0) (upTo 25) ⌝ }
 {

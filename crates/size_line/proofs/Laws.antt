@@ -7,10 +7,10 @@ use native.Mathlib.Omega.{arith}
 use lib.Dec.{leb, ltb}
 use lib.ListN.{length, length-append}
 use borrow.Author.Tests.{le-leb, lt-leb, leb-true, leb-false, ltb-true, ltb-false}
-use Rattle.model.specs.Lists.{each, upTo, total}
+use Rattle.model.specs.Lists.{each, from, upTo, total}
 use Rattle.formula.specs.Dimacs.{decimal, problemLine}
 use Rattle.model.proofs.Lists.{by-test}
-use Rattle.model.proofs.Keeping.{total-both, total-const, total-same, length-loop}
+use Rattle.model.proofs.Keeping.{total-both, total-const, total-more, length-loop}
 use Rattle.formula.proofs.Figures.{figures-one, figures-more}
 use Rattle.dimacs.specs.Codes.{codeSize}
 use Rattle.dimacs.proofs.Sizes.{code-size, line-two, line-four}
@@ -88,6 +88,16 @@ literals-all first (suc n) h =
     let same = ap (λ k. length (decimal k)) half in
     let more = suc-mul n (first % 2 + 1) in
     omega arith
+
+-- Lines one after the other: none, and one more.
+pub lines-none : (f : ℕ → List ℕ) → length (each (upTo 0) f) ≡ 0
+unfolding each from
+lines-none f = refl
+
+pub lines-more : (f : ℕ → List ℕ) (n : ℕ) → length (each (upTo (n + 1)) f) ≡ length (each (upTo n) f) + length (f n)
+lines-more f n =
+    let size : ℕ → ℕ = λ k. length (f k) in
+    length-loop f (n + 1) size (λ k l. refl) ∙ total-more n size ∙ ap (λ z. z + length (f n)) (sym (length-loop f n size (λ k l. refl)))
 
 -- Lines that have w bytes in common, and of line k so many more.
 pub lines-size : (f : ℕ → List ℕ) (n w : ℕ) (g : ℕ → ℕ) → ((k : ℕ) → k < n → length (f k) ≡ w + g k) → length (each (upTo n) f) ≡ n * w + total n g
