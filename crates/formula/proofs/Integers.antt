@@ -12,6 +12,7 @@ use borrow.Author.Tests.{eqb-true, eq-eqb, lt-ltb, le-ltb}
 use Rattle.model.specs.Sheet.{Constraint, Sheet, limit, coefficient}
 use Rattle.formula.specs.Clause.{lowest, least, spread, highest, greatest}
 use Rattle.formula.specs.Numbering.{SumIn}
+use Rattle.formula.specs.Count.{rise}
 use Rattle.model.proofs.Lists.{never}
 
 -- a test of equality
@@ -45,15 +46,11 @@ neg-up (suc x) zero h = let e : suc x - 0 ≡ suc x = omega arith in rw (e, le-l
 neg-up (suc x) (suc y) h = rw (lt-ltb (suc x - suc y) (suc x) (omega arith)) (ap negsuc (omega arith))
 
 -- how far coefficient × length is above the lowest that the limit allows
-abbrev rise : ℤ → ℕ → ℕ → ℕ
-rise (pos a) n d = a * d
-rise (negsuc a) n d = suc a * n - suc a * d
-
 rise-is : (c : ℤ) (n d : ℕ) → d ≤ n → c *ℤ pos d ≡ lowest c n +ℤ pos (rise c n d)
 rise-is (pos a) n d h = ap pos (omega arith)
 rise-is (negsuc a) n d h = let k : suc a ≤ suc a = omega arith in neg-up (suc a * n) (suc a * d) (mul-le-mul k h)
 
-rise-small : (c : ℤ) (n d : ℕ) → d ≤ n → rise c n d ≤ natAbs c * n
+pub rise-small : (c : ℤ) (n d : ℕ) → d ≤ n → rise c n d ≤ natAbs c * n
 rise-small (pos a) n d h = let k : a ≤ a = omega arith in mul-le-mul k h
 rise-small (negsuc a) n d h = omega arith
 
@@ -111,7 +108,7 @@ module _ (s : Sheet) (c : Constraint) where
   sum-zero = (refl, omega arith)
 
   -- so is the sum with one field more
-  step : (k m d : ℕ) → d ≤ limit s k
+  pub step : (k m d : ℕ) → d ≤ limit s k
       → least s c k +ℤ pos m +ℤ coefficient c k *ℤ pos d ≡ least s c (suc k) +ℤ pos (m + rise (coefficient c k) (limit s k) d)
   unfolding least
   step k m d h =

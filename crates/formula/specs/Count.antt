@@ -63,10 +63,16 @@ rowCount s p i = total (suc (length (rightCells s p))) (locationSize s p i)
 unfoldable pub equationCount : Sheet → ℕ → ℕ
 equationCount s p = 1 + total (suc (length (leftCells s p))) (rowCount s p)
 
--- Of field k's step under constraint r. Of the w sums from `least` on those that are at most the limit come first: so many.
+-- Of field k's step under constraint r.
 abbrev pub stepCount : Sheet → ℕ → ℕ → ℕ
 stepCount s r k = suc (spread s (constraint s r) k) * suc (limit s k)
 
+-- how far coefficient × length d is above the lowest that a limit of n allows
+abbrev pub rise : ℤ → ℕ → ℕ → ℕ
+rise (pos a) n d = a * d
+rise (negsuc a) n d = suc a * n - suc a * d
+
+-- Of the w sums from `least` on those that are at most the limit come first: so many.
 abbrev pub atMost : ℤ → ℕ → ℕ
 atMost (pos d) w = pick (ltb d w) (suc d) w
 atMost (negsuc d) w = 0

@@ -99,7 +99,7 @@ fn sum_with(sheet: &[u8], r: usize, k: usize, n: i16, d: usize) -> i16
 }
 
 // Place d - 1 of field k is blank, so that the field is shorter than d: no literal where d is 0.
-fn shorter(sheet: &[u8], k: usize, d: usize) -> usize
+pub fn shorter(sheet: &[u8], k: usize, d: usize) -> usize
     requires { ⌜ Admitted (now sheet) × (k < length (sheetOf (now sheet) .limits)) × (d ≤ limit (sheetOf (now sheet)) k) ⌝ }
     ensures { λ r. ⌜ r ≡ termCode (sheetOf (now (sheet .entry))) (only (ltb 0 d) (yes (K k (d - 1) (blank (sheetOf (now (sheet .entry))))))) ⌝ }
 {
@@ -110,7 +110,7 @@ fn shorter(sheet: &[u8], k: usize, d: usize) -> usize
 }
 
 // Place d of field k is not blank, so that the field is longer than d: no literal where d is its limit.
-fn longer(sheet: &[u8], k: usize, d: usize) -> usize
+pub fn longer(sheet: &[u8], k: usize, d: usize) -> usize
     requires { ⌜ Admitted (now sheet) × (k < length (sheetOf (now sheet) .limits)) ⌝ }
     ensures { λ r. ⌜ r ≡ termCode (sheetOf (now (sheet .entry))) (only (ltb d (limit (sheetOf (now (sheet .entry))) k)) (no (K k d (blank (sheetOf (now (sheet .entry))))))) ⌝ }
 {

@@ -27,7 +27,7 @@ fn lowest(c: i8, n: usize) -> i16
 }
 
 // A coefficient without its sign.
-fn magnitude(c: i8) -> usize
+pub fn magnitude(c: i8) -> usize
     requires { ⌜ natAbs c ≤ 4 ⌝ }
     ensures { λ r. ⌜ r ≡ natAbs c ⌝ }
 {

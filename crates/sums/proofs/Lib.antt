@@ -1,1 +1,1 @@
-mod Summed
+pub mod Summed
