@@ -1,13 +1,10 @@
 -- What the enums of this crate say in document 01's numbers.
-use mathlib.Core.List.{List, [], _∷_}
+use mathlib.Core.List.{[], _∷_}
 use Prim.Native.Nat.{ℕ}
 use Rattle.calls.specs.Calls.{Answer, refused, finished}
 use Rattle.sheet.specs.Answer as sheet
-use Rattle.encoding.specs.declared.ClauseCounts.{ClauseCounts}
 use Rattle.encoding.specs.declared.Refusal.{Refusal}
 use Rattle.encoding.specs.declared.Refusal.the-variants.{Sheet, Line, Room}
-use Rattle.encoding.specs.declared.Counting.{Counting}
-use Rattle.encoding.specs.declared.Counting.the-variants as counting
 use Rattle.encoding.specs.declared.Writing.{Writing}
 use Rattle.encoding.specs.declared.Writing.the-variants as writing
 
@@ -16,14 +13,6 @@ abbrev pub numberOf : Refusal → ℕ
 numberOf (Sheet f) = sheet.numberOf f
 numberOf Line = 28
 numberOf Room = 29
-
--- "the variable count, the clause count C, and the size allowance"
-abbrev pub threeCounts : ClauseCounts → List ℕ
-threeCounts c = c .variables ∷ c .clauses ∷ c .allowance ∷ []
-
-abbrev pub counted : Counting → Answer
-counted (counting.Counts c) = finished (threeCounts c)
-counted (counting.Refused f) = refused (sheet.numberOf f)
 
 -- "The answer is the line's length"
 abbrev pub lined : Writing → Answer

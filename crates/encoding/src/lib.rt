@@ -1,4 +1,4 @@
-// The clause file of a sheet: how many variables and clauses it has, and its lines.
+// One line of a sheet's clause file, found by its number.
 ghost use mathlib.Core.Path.{_≡_};
 ghost use Prim.Native.Nat.{suc, _≤_};
 ghost use lib.ListN.{length};
@@ -6,22 +6,9 @@ ghost use Rattle.model.specs.Lists.{Puts};
 ghost use Rattle.model.specs.Sheet.{sheetOf};
 ghost use Rattle.model.specs.Range.{Admitted};
 ghost use Rattle.formula.specs.Dimacs.{line};
-ghost use Rattle.calls.specs.Calls.{clauseCounts, counting, writing, Writes};
-ghost use Rattle.encoding.specs.Answer.{numberOf, threeCounts, counted, lined};
+ghost use Rattle.calls.specs.Calls.{writing, Writes};
+ghost use Rattle.encoding.specs.Answer.{numberOf, lined};
 ghost use Rattle.encoding.specs.Lines.{LineWritten};
-
-// What counting answers: the variables, the clauses, and a size that is at least the file's bytes.
-pub struct ClauseCounts {
-    pub variables: usize,
-    pub clauses: usize,
-    pub allowance: usize,
-}
-
-// The answer of counting, which refuses only what reading refuses.
-pub enum Counting {
-    Counts(ClauseCounts),
-    Refused(sheet::Refusal),
-}
 
 // What writing a line refuses, by document 01's numbers: what reading refuses, 28 and 29.
 pub enum Refusal {
@@ -36,7 +23,7 @@ pub enum Writing {
     Refused(Refusal),
 }
 
-// Room for any line, and what the allowance has for each.
+// Room for any line.
 const LINE_ROOM: usize = 80;
 
 // Document 01's number of a refusal.
@@ -47,29 +34,6 @@ pub fn number(refusal: Refusal) -> u8
         Refusal::Sheet(found) => sheet::number(found),
         Refusal::Line => 28,
         Refusal::Room => 29,
-    }
-}
-
-// The counts of an accepted sheet.
-fn clause_counts(sheet: &[u8]) -> ClauseCounts
-    requires { ⌜ Admitted (now sheet) ⌝ }
-    ensures { λ r. ⌜ threeCounts r ≡ clauseCounts (sheetOf (now (sheet .entry))) ⌝ }
-{
-    let clauses = counting::clause_count(sheet);
-    ClauseCounts {
-        variables: numbering::variable_count(sheet),
-        clauses,
-        allowance: (clauses + 1) * LINE_ROOM,
-    }
-}
-
-// Counts a sheet's variables and clauses: the three counts, or the sheet's refusal. Any bytes are allowed.
-pub fn count(sheet: &[u8]) -> Counting
-    ensures { λ r. ⌜ counted r ≡ counting (now (sheet .entry)) ⌝ }
-{
-    match sheet::read(sheet) {
-        sheet::Reading::Refused(refusal) => Counting::Refused(refusal),
-        sheet::Reading::Accepted(_) => Counting::Counts(clause_counts(sheet)),
     }
 }
 

@@ -2,7 +2,7 @@
 // untouched on a refusal. Each is one call of a function below it with the same contract, which does the work.
 ghost use mathlib.Core.Path.{_≡_};
 ghost use lib.ListN.{length};
-ghost use Rattle.calls.specs.Calls.{reading, checking, spelling, searching, counting, writing, replying, comparing};
+ghost use Rattle.calls.specs.Calls.{reading, checking, spelling, searching, counting, writing, filing, replying, comparing};
 ghost use Rattle.c_answer.specs.Returned.{returned, lentAfter, returnedNumber, Handed, HandedOver, Decided};
 
 // Reads a sheet of any bytes. Returns 0, with its four counts (letters, fields, pairs, rules) in `counts`; or minus
@@ -46,13 +46,13 @@ pub extern "C" fn tpl_search(sheet: &[u8], filling: &mut [u8]) -> i64
     c_search::search(sheet, filling)
 }
 
-// Counts the variables and clauses of a sheet's clause file. Returns 0, with the variables, the clauses and a size that is at least the
-// file's bytes in `counts`; or minus document 01's number of the first refusal, with `counts` as it was.
+// Counts the variables and clauses of a sheet's clause file, and its bytes. Returns 0, with the variables, the clauses and the bytes in `counts`; or minus
+// document 01's number of the first refusal, with `counts` as it was.
 #[no_mangle]
 pub extern "C" fn tpl_count(sheet: &[u8], counts: &mut [u64; 3]) -> i64
     ensures { λ r. ⌜ (r ≡ returned (counting (now (sheet .entry)))) × (now (counts .exit) ≡ lentAfter (counting (now (sheet .entry))) (now (counts .entry))) ⌝ }
 {
-    c_clauses::count(sheet, counts)
+    c_file::count(sheet, counts)
 }
 
 // Writes line `line` of a sheet's clause file into `text`. Returns the line's length, with later bytes as they were; or minus document
@@ -62,6 +62,15 @@ pub extern "C" fn tpl_line(sheet: &[u8], line: u64, text: &mut [u8]) -> i64
     ensures { λ r. ⌜ Handed (writing (now (sheet .entry)) line (length (now (text .entry)))) (now (text .entry)) r (now (text .exit)) ⌝ }
 {
     c_clauses::line(sheet, line, text)
+}
+
+// Writes a sheet's whole clause file into `file`, its lines one after the other. Returns the file's length, with later bytes as they were; or minus document
+// 01's number of the first refusal, with all bytes as they were.
+#[no_mangle]
+pub extern "C" fn tpl_file(sheet: &[u8], file: &mut [u8]) -> i64
+    ensures { λ r. ⌜ Handed (filing (now (sheet .entry)) (length (now (file .entry)))) (now (file .entry)) r (now (file .exit)) ⌝ }
+{
+    c_file::file(sheet, file)
 }
 
 // Reads a solver's reply to a sheet's clause file. Returns 0 for a reply that is accepted, with the filling that it spells, which clashes, in the

@@ -1,12 +1,12 @@
--- `c_clauses::count` meets its contract: what counting answers, handed over. Assumes nothing.
+-- `c_file::count` meets its contract: what counting answers, handed over. Assumes nothing.
 use mathlib.Core.Path.{_≡_, refl, sym, ap, _∙_}
 use Rattle.calls.specs.Calls.{counting, refused, finished}
 use Rattle.sheet.specs.Answer.{numberOf}
-use Rattle.encoding.specs.Answer.{threeCounts, counted}
+use Rattle.filing.specs.Answer.{threeCounts, counted}
 use Rattle.c_answer.proofs.Negated.{minus-stored}
 use borrow.Author.Needs.{needs}
-use Rattle.c_clauses.proofs.count.Statement.{statement}
-use Rattle.c_clauses.proofs.count.Tie as tie
+use Rattle.c_file.proofs.count.Statement.{statement}
+use Rattle.c_file.proofs.count.Tie as tie
 
 count-requires : tie.Need-count-requires
 count-requires c κs = search needs

@@ -1,11 +1,11 @@
--- `encoding::count` meets its contract: the sheet's refusal, or its counts. Assumes nothing.
+-- `filing::count` meets its contract: the sheet's refusal, or its counts. Assumes nothing.
 use mathlib.Core.Path.{sym, ap, subst, _∙_}
 use borrow.Author.Needs.{needs}
 use Rattle.calls.specs.Calls.{finished}
 use Rattle.calls.proofs.Operations.{counting-sheet, counting-counts}
 use Rattle.sheet.specs.Answer.{numberOf, answer, admitted}
-use Rattle.encoding.proofs.count.Statement.{statement}
-use Rattle.encoding.proofs.count.Tie as tie
+use Rattle.filing.proofs.count.Statement.{statement}
+use Rattle.filing.proofs.count.Tie as tie
 
 read-requires : tie.Need-read-requires
 read-requires c κs = search needs
