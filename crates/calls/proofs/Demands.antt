@@ -150,7 +150,7 @@ module _ (b : List ℕ) (y : Bytes b) where
     lines-byte-for-byte n call ok i k = subst (λ a. Writes a before answer after) (writing-line b n (length before) ok i k) call
 
   -- "the printed counts": those that are answered, and printed in line 0, are how many variables and clauses there are; and the variables have
-  -- the numbers from 1 to their count
+  -- the numbers from 1 to their count. The third is the file's size (FileSize.antt).
   pub counts-are-true : Accepted b
       → let s = sheetOf b in
       let v = length (variables s) in

@@ -131,7 +131,8 @@ writingOf s n room =
 unfoldable pub writing : List ℕ → ℕ → ℕ → Answer
 writing b n room = ofSheet (read b) (λ s. writingOf s n room)
 
--- Writing the whole file, lines 0 to C one after the other: as writing a line, with 29 for a buffer shorter than the file.
+-- Writing the whole file, lines 0 to C one after the other, which neither paper asks for: no line's number is given, so that there is no 28; 29 where the
+-- buffer is shorter than the file. "The answer is the .. length; later bytes are unchanged", as of a line.
 unfoldable pub filingOf : Sheet → ℕ → Answer
 filingOf s room = require (leb (length (file s)) room) 29 (finished (file s))
 

@@ -1,6 +1,6 @@
 -- The rules of each call as one list in document 01's order (a book's in document 02's), a rule being the number of its refusal and whether it is kept (a sheet's own
 -- rules, over lengths, are constraints here). Nothing is walked here: a byte is found by its offset. So "the first refusal number that
--- applies, in the order given there" is said apart from the way in which a call finds it; `Demands.antt`, and of a book `BookOfTemplates.antt`, show that each call gives it.
+-- applies, in the order given there" is said apart from the way in which a call finds it; `Demands.antt`, of a book `BookOfTemplates.antt` and of the whole file `FileSize.antt` show that each call gives it.
 use mathlib.Core.Path.{_≡_}
 use mathlib.Core.Bool.{Bool, true, false}
 use mathlib.Core.List.{List, [], _∷_, _++_, map}
@@ -147,7 +147,7 @@ roomRule room s = 27 asks leb (9 * length (s .limits)) room
 unfoldable pub writingRules : ℕ → ℕ → Sheet → List Rule
 writingRules n room s = (28 asks leb n (length (ids s))) ∷ (29 asks leb (length (line s n)) room) ∷ []
 
--- 29 of the whole file: "buffer shorter than" all its lines together
+-- Writing the whole file: 29 where the buffer is shorter than all its lines together.
 abbrev pub filingRule : ℕ → Sheet → Rule
 filingRule room s = 29 asks leb (fileSize s) room
 

@@ -1,5 +1,5 @@
--- How many bytes a literal and a line have, by codes: what is written and what is measured have these from here. Assumes nothing.
-use mathlib.Core.Path.{_≡_, refl, ap, _∙_}
+-- How many bytes a literal and a line have, by codes. Assumes nothing.
+use mathlib.Core.Path.{_≡_, refl, ap}
 use mathlib.Core.List.{List, [], _∷_, _++_}
 use Prim.Native.Nat.{ℕ, _+_, _/_, _%_}
 use native.Mathlib.Omega.{arith}
@@ -46,7 +46,7 @@ line-literal code codes =
     let c = length-append (each codes codeBytes) (48 ∷ 10 ∷ []) in
     omega arith
 
--- lines of one, two, three and four literals
+-- lines of one, two, three and four codes
 pub line-one : (a : ℕ) → lineSize (a ∷ []) ≡ codeSize a + 2
 line-one a = let x = line-literal a [] in let e = line-end in omega arith
 

@@ -6,7 +6,7 @@ use Prim.Native.Nat.{ℕ}
 use lib.IntN.{ℤ, pos, negℤ}
 use lib.ListN.{length}
 use Rattle.model.specs.Lists.{each, from, upTo, any, keep, total}
-use Rattle.model.specs.Sheet.{letter, field, Sheet}
+use Rattle.model.specs.Sheet.{Symbol, letter, field, Sheet}
 use Rattle.model.specs.Cells.{cells}
 use Rattle.formula.specs.Clause.{terms, leftOut, literals, least, spread, sums, placeIds, locationIds, equationIds, constraintIds, listed, ids}
 use Rattle.formula.specs.Kind.{sameLetterTwice, differentLetters, letterThenField, fieldThenLetter, twoFields, usedUpBeforeLetter, usedUpBeforeField, bothUsedUp, locationsOf}
@@ -17,7 +17,7 @@ use Rattle.formula.specs.Dimacs.{digits, decimal, problemLine, clauseLin
 abbrev pub minus : ℕ → ℤ
 minus n = negℤ (pos n)
 
--- a sheet, how many variables and clauses it has, how many bytes its file, how many locations of each kind its equations have, in the order of document 02's
+-- a sheet, how many variables and clauses it has, how many bytes its file has, how many locations of each kind its equations have, in the order of document 02's
 -- No. 2, and its clauses
 pub record ClauseFile : Type 0 where
   pub sheet : Sheet
@@ -245,6 +245,31 @@ all-kinds = refl
 pub all-sizes : map (λ (c : ClauseFile). fileSize (c .sheet)) clauseFiles ≡ map (λ (c : ClauseFile). c .bytes) clauseFiles
 unfolding each from any keep total cells terms leftOut literals least spread sums placeIds locationIds equationIds constraintIds listed ids number clause kVariables sVariables tVariables variables digits decimal problemLine clauseLine line fileSize
 all-sizes = refl
+
+-- Sizes of files in which numbers come from one figure to two, and from two to three: 18 variables and 41 clauses, of them one place with the values 9 to 12;
+-- 100 variables and as many clauses; 105 variables and 55 clauses, with sums from below 100 to above it.
+abbrev nine : List Symbol
+nine = letter 0 ∷ letter 0 ∷ letter 0 ∷ letter 0 ∷ letter 0 ∷ letter 0 ∷ letter 0 ∷ letter 0 ∷ letter 0 ∷ []
+
+pub more-figures :
+    map fileSize
+    (record {
+      letters = 65 ∷ 66 ∷ 67 ∷ [];
+      limits = 2 ∷ 1 ∷ [];
+      equations = record { left = field 0 ∷ []; right = field 1 ∷ [] } ∷ [];
+      constraints = [];
+    }
+    ∷ record { letters = 65 ∷ []; limits = []; equations = record { left = nine; right = nine } ∷ []; constraints = [] }
+    ∷ record {
+      letters = 65 ∷ [];
+      limits = 7 ∷ [];
+      equations = record { left = []; right = [] } ∷ [];
+      constraints = record { coefficients = pos 4 ∷ []; most = pos 28 } ∷ record { coefficients = pos 4 ∷ []; most = pos 28 } ∷ record { coefficients = pos 4 ∷ []; most = pos 21 } ∷ [];
+    }
+    ∷ [])
+    ≡ 442 ∷ 847 ∷ 577 ∷ []
+unfolding each from any keep total cells terms leftOut literals least spread sums placeIds locationIds equationIds constraintIds listed ids number clause kVariables sVariables tVariables variables digits decimal problemLine clauseLine line fileSize
+more-figures = refl
 
 -- the clause program's nine lines for sheet P
 pub file-P : file P ≡

@@ -186,13 +186,16 @@ pub file-size : (s : Sheet) → fileSize s ≡ length (file s)
 unfolding file fileSize
 file-size s = sym (length-loop (line s) (suc (length (ids s))) (λ n. length (line s n)) (λ n l. refl))
 
--- The greatest size of a file.
-pub file-small : (s : Sheet) → InRange s → length (file s) ≤ mostFile
+-- The greatest size of a file, by the number of its lines, and of all.
+pub file-narrow : (s : Sheet) → InRange s → length (file s) ≤ suc (length (ids s)) * 38
 unfolding file
+file-narrow s ok = each-short (line s) 38 (suc (length (ids s))) (λ i l. line-narrow s ok i (omega arith))
+
+pub file-small : (s : Sheet) → InRange s → length (file s) ≤ mostFile
 file-small s ok =
     let c = clause-count s (well-formed s ok) in
     let most = clauses-small s ok in
-    let m = each-short (line s) 38 (suc (length (ids s))) (λ i l. line-narrow s ok i (omega arith)) in
+    let m = file-narrow s ok in
     let few : suc (length (ids s)) ≤ 47601 = omega arith in
     let same : 38 ≤ 38 = omega arith in
     let all = mul-le-mul few same in

@@ -101,8 +101,9 @@ pub fn file_size(sheet: &[u8], variables: usize, clauses: usize) -> usize
     requires { ⌜ Admitted (now sheet) × (variables ≡ variableCount (sheetOf (now sheet))) × (clauses ≡ length (ids (sheetOf (now sheet)))) ⌝ }
     ensures { λ r. ⌜ (r ≡ fileSize (sheetOf (now (sheet .entry)))) × (r ≤ 8000000) ⌝ }
 {
-    size_line::problem_size(variables, clauses)
-        + section_size(sheet, Section::Fields)
-        + section_size(sheet, Section::Equations)
-        + section_size(sheet, Section::Constraints)
+    let first = size_line::problem_size(variables, clauses);
+    let fields = section_size(sheet, Section::Fields);
+    let equations = section_size(sheet, Section::Equations);
+    let constraints = section_size(sheet, Section::Constraints);
+    first + fields + equations + constraints
 }

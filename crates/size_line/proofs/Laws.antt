@@ -1,5 +1,5 @@
 -- How many figures numbers have, one and several in a row; how many bytes literals in a row have, and lines. Assumes nothing.
-use mathlib.Core.Path.{_≡_, refl, sym, ap, ap₂, _∙_}
+use mathlib.Core.Path.{_≡_, refl, sym, ap, _∙_}
 use mathlib.Core.List.{List, [], _∷_, _++_}
 use Prim.Native.Nat.{ℕ, zero, suc, _+_, _-_, _*_, _/_, _%_, _<_, _≤_}
 use native.Mathlib.Nat.{mul-le-mul, suc-mul}
@@ -99,7 +99,7 @@ lines-more f n =
     let size : ℕ → ℕ = λ k. length (f k) in
     length-loop f (n + 1) size (λ k l. refl) ∙ total-more n size ∙ ap (λ z. z + length (f n)) (sym (length-loop f n size (λ k l. refl)))
 
--- Lines that have w bytes in common, and of line k so many more.
+-- Lines of w bytes each, and of line k so many more.
 pub lines-size : (f : ℕ → List ℕ) (n w : ℕ) (g : ℕ → ℕ) → ((k : ℕ) → k < n → length (f k) ≡ w + g k) → length (each (upTo n) f) ≡ n * w + total n g
 lines-size f n w g e = length-loop f n (λ k. w + g k) e ∙ sym (total-both n (λ k. w) g) ∙ ap (λ z. z + total n g) (total-const n w)
 

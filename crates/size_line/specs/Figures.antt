@@ -1,9 +1,9 @@
--- How many numbers in a row come to a power of ten.
+-- How many of some numbers in a row come to a bound; a number has one figure more for each power of ten that it comes to.
 use Prim.Native.Nat.{ℕ, _+_}
 use lib.Dec.{leb}
 use Rattle.model.specs.Lists.{pick, total}
 
--- whether n is at least p, as a number; and how many of the n numbers from a on are
+-- 1 if a number is at least p, else 0; and how many of the n numbers from a on are
 abbrev pub reach : ℕ → ℕ → ℕ
 reach p n = pick (leb p n) 1 0
 

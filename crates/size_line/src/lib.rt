@@ -8,7 +8,7 @@ ghost use Rattle.dimacs.specs.Codes.{codeSize, largeCode};
 ghost use Rattle.matching.specs.Codes.{unlikeLine, matchLine};
 ghost use Rattle.size_line.specs.Figures.{reached};
 
-// The last two bytes of a line, a nought and the line end.
+// How many bytes end a line: a nought and the line end.
 pub const ENDING: usize = 2;
 
 // How many figures a number has.
@@ -76,7 +76,7 @@ pub fn literals_size(first: usize, n: usize) -> usize
     n * (first % 2 + 1) + figures_from(first / 2, n)
 }
 
-// The lines that `matching::put_unlike` writes: in each the literal of `here`, and one of n in a row.
+// How many bytes the lines have that `matching::put_unlike` writes: in each is the negation of what has code `here`, and one of n literals in a row.
 pub fn unlike_size(here: usize, x: usize, first: usize, n: usize) -> usize
     requires { ⌜ (here ≤ largeCode) × (x ≤ largeCode) × (first + n ≤ 9) ⌝ }
     ensures { λ r. ⌜ (r ≡ length (each (upTo n) (unlikeLine here x first))) × (r ≤ 16 * n) ⌝ }
@@ -84,7 +84,7 @@ pub fn unlike_size(here: usize, x: usize, first: usize, n: usize) -> usize
     n * (literal_size(here + 1) + ENDING) + literals_size(x + 2 * first + 1, n)
 }
 
-// The lines that `matching::put_matches` writes: in each the literals of `here` and of y's blank, one of x's and one of y's letters.
+// Those that `matching::put_matches` writes: in each are the negation of what has code `here`, y's blank, one of x's letters and one of y's.
 pub fn matches_size(l: usize, here: usize, x: usize, y: usize) -> usize
     requires { ⌜ (l ≤ 8) × (here ≤ largeCode) × (x ≤ largeCode) × (y ≤ largeCode) × (0 < y) ⌝ }
     ensures { λ r. ⌜ (r ≡ length (each (upTo l) (matchLine l here x y))) × (r ≤ 30 * l) ⌝ }

@@ -53,9 +53,9 @@ file-size-spec =
     (tie.spec
     problem-size-requires
     section-size-requires
-    add-result
     section-size-requires-2
-    add-result-2
     section-size-requires-3
+    add-result
+    add-result-2
     add-result-3
     returns)
