@@ -1,10 +1,11 @@
-//! Shows how many clauses a sheet's clause file has, case by case, as a table whose rows can be held against document 01 and ticked off. The
-//! engine's own count stands beside it.
+//! Shows how many clauses a sheet's clause file has, case by case, as a table whose rows can be held against document 01 and ticked off, and how
+//! many bytes. The engine's own counts stand beside them.
 
 use crate::form::Form;
 use crate::input::Input;
 use crate::ticks::{Kind, OfField, OfPair, OfRule, Sums, Tick, Ticks};
 use crate::verdict;
+use lunthegyr::{calls, ClauseCounts, Sheet, LINE_MOST};
 use std::fmt::{self, Display};
 
 /// A row of the table.
@@ -30,36 +31,54 @@ const NUMBERS: usize = MANY + EACH + CLAUSES + 2 * 3;
 const MOST_WIDE: usize = 110 - NUMBERS - 2;
 const FURTHER: &str = "      ";
 
-/// Whether the table comes to the engine's count, and the lines.
+/// Whether the table and the file come to the engine's counts, and the lines.
 pub fn of(input: &Input) -> (bool, Vec<String>) {
     let ticks = Ticks::of(&input.form);
     let counts = input.sheet.clause_counts();
+    let bytes = written(&input.sheet, counts.clauses);
     let mut lines = vec![
         verdict::heading(input),
         String::new(),
         format!(
-            "{} variables and {} clauses, counted by the engine. L = {}, the number of letters.",
+            "{} variables, {} clauses and {} bytes, counted by the engine. L = {}, the number of letters.",
             counts.variables,
             counts.clauses,
+            counts.bytes,
             input.form.letters.len()
         ),
         String::new(),
     ];
-    lines.extend(table(&rows(input, &ticks, counts.clauses)));
+    lines.extend(table(&rows(input, &ticks, bytes, &counts)));
     lines.push(String::new());
-    let same = ticks.clauses() == counts.clauses;
-    lines.push(
-        match same {
-            true => "The table and the engine come to the same C. docs/COUNTING.md tells which clauses each row has.",
-            false => "THE TABLE AND THE ENGINE DIFFER. The engine's C is the proved one, so the table is WRONG. Do not use it.",
-        }
-        .to_string(),
-    );
-    (same, lines)
+    let same_clauses = ticks.clauses() == counts.clauses;
+    let same_bytes = bytes == counts.bytes;
+    lines.extend(ends(same_clauses, same_bytes).map(str::to_string));
+    (same_clauses && same_bytes, lines)
 }
 
-/// The rows of a sheet, with the engine's C in the last.
-fn rows(input: &Input, ticks: &Ticks, engine: u64) -> Vec<Row> {
+/// Whether both counts are the engine's, in words.
+fn ends(same_clauses: bool, same_bytes: bool) -> [&'static str; 2] {
+    [
+        match same_clauses {
+            true => "The table and the engine come to the same C. docs/COUNTING.md tells which clauses each row has.",
+            false => "THE TABLE AND THE ENGINE DIFFER. The engine's C is the proved one, so the table is WRONG. Do not use it.",
+        },
+        match same_bytes {
+            true => "The file and the engine come to the same bytes, with the line feed of each line counted.",
+            false => "THE FILE AND THE ENGINE'S COUNT OF ITS BYTES DIFFER. One of them is WRONG. Do not use either.",
+        },
+    ]
+}
+
+/// How many bytes the clause file has, by writing it. The buffer has room for each line, whatever the engine's count of bytes says.
+fn written(sheet: &Sheet, clauses: u64) -> u64 {
+    let mut file = vec![0; (clauses as usize + 1) * LINE_MOST];
+    let length = calls::file(sheet.bytes(), &mut file);
+    length.expect("the sheet was accepted, and each line has room") as u64
+}
+
+/// The rows of a sheet. In the last are C and the file's bytes, as they are found here and as the engine counts them.
+fn rows(input: &Input, ticks: &Ticks, bytes: u64, engine: &ClauseCounts) -> Vec<Row> {
     let form = &input.form;
     let mut rows = Vec::new();
     for (number, ticks) in ticks.fields.iter().enumerate() {
@@ -76,9 +95,18 @@ fn rows(input: &Input, ticks: &Ticks, engine: u64) -> Vec<Row> {
         (verdict::some(form.pairs.len(), "pair"), ticks.of_pairs()),
         (verdict::some(form.rules.len(), "rule"), ticks.of_rules()),
         ("C, counted here".to_string(), ticks.clauses()),
-        ("C, counted by the engine".to_string(), engine),
+        ("C, counted by the engine".to_string(), engine.clauses),
     ];
     rows.extend(sums.map(|(label, sum)| row(label, Numbers::Sum(sum))));
+    rows.push(row("", Numbers::Nothing));
+    let sizes = [
+        ("written here", bytes),
+        ("counted by the engine", engine.bytes),
+    ];
+    rows.extend(sizes.map(|(how, size)| {
+        let label = format!("Bytes of the clause file, {how}");
+        row(label, Numbers::Sum(size))
+    }));
     rows
 }
 
