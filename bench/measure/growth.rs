@@ -113,15 +113,7 @@ pub fn plots(setting: &Setting) -> String {
 /// Searches a sheet by the library's call, which must answer so.
 fn call(sheet: &[u8], clash: bool) {
     let mut filling = [0; 6 * FIELD_BYTES];
-    // The pointers lead to as many bytes as the number after each says.
-    let status = unsafe {
-        engine::tpl_search(
-            sheet.as_ptr(),
-            sheet.len(),
-            filling.as_mut_ptr(),
-            filling.len(),
-        )
-    };
+    let status = engine::search(sheet, &mut filling);
     if status != i64::from(clash) {
         fail(&format!(
             "the library's search answers {status} where the program finds a clash: {clash}"

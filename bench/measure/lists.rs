@@ -127,9 +127,7 @@ fn list(setting: &Setting, book: &Book) -> Listed {
 fn call(book: &[u8], due: &[u8]) -> Duration {
     let mut list = [0; MOST_LIST_BYTES];
     let began = Instant::now();
-    // The pointers lead to as many bytes as the number after each says.
-    let status =
-        unsafe { engine::tpl_book(book.as_ptr(), book.len(), list.as_mut_ptr(), list.len()) };
+    let status = engine::book(book, &mut list);
     let time = began.elapsed();
     if status != (due.len() / PAIR_BYTES) as i64 || !list.starts_with(due) {
         fail(&format!(

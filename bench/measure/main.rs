@@ -14,9 +14,6 @@ mod book;
 #[path = "../../tests/outside/books.rs"]
 #[allow(dead_code)]
 mod books;
-#[path = "../../tests/outside/engine.rs"]
-#[allow(dead_code)]
-mod engine;
 #[path = "../../tests/outside/fillings.rs"]
 #[allow(dead_code)]
 mod fillings;
@@ -26,9 +23,6 @@ mod first;
 #[path = "../../tests/outside/hard.rs"]
 #[allow(dead_code)]
 mod hard;
-#[path = "../../tests/outside/lent.rs"]
-#[allow(dead_code)]
-mod lent;
 #[path = "../../tests/outside/planted.rs"]
 #[allow(dead_code)]
 mod planted;
@@ -59,6 +53,10 @@ mod texts;
 #[path = "../../tests/outside/writer.rs"]
 #[allow(dead_code)]
 mod writer;
+
+#[path = "../../bindings/rust/src/engine.rs"]
+#[allow(dead_code)]
+mod engine;
 
 #[path = "../lines/drawn.rs"]
 mod drawn;

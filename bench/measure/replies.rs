@@ -96,7 +96,7 @@ pub fn read(effort: Effort, sheet: &[u8], text: &[u8]) -> (Timing, Timing) {
     while timings[0].has_more() || timings[1].has_more() {
         let mut buffers = [[0; 6 * FIELD_BYTES]; 2];
         let began = Instant::now();
-        let status = reply(sheet, text, &mut buffers[0]);
+        let status = engine::reply(sheet, text, &mut buffers[0]);
         timings[0].add(began.elapsed());
         let began = Instant::now();
         let plain = plain_reply::read(sheet, text, &mut buffers[1]);
@@ -109,20 +109,4 @@ pub fn read(effort: Effort, sheet: &[u8], text: &[u8]) -> (Timing, Timing) {
     }
     let [library, plain] = timings;
     (library, plain)
-}
-
-/// The library's call, with nothing around it.
-fn reply(sheet: &[u8], text: &[u8], filling: &mut [u8]) -> i64 {
-    let room = filling.len();
-    // The pointers lead to as many bytes as the number after each says.
-    unsafe {
-        engine::tpl_reply(
-            sheet.as_ptr(),
-            sheet.len(),
-            text.as_ptr(),
-            text.len(),
-            filling.as_mut_ptr(),
-            room,
-        )
-    }
 }
