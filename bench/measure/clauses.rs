@@ -10,7 +10,7 @@ use crate::{fail, progress, save, Setting};
 /// The clause program may take this many times the plain one's time.
 const ALLOWED: f64 = 3.0;
 
-const PROGRAM: &str = "target/bin/clauses";
+pub const PROGRAM: &str = "target/bin/clauses";
 const PLAIN: &str = "target/bench/plain-clauses";
 /// The word by which the plain program makes digits by hand.
 const BY_HAND: &str = "by-hand";

@@ -37,6 +37,27 @@ pub fn most_clauses(size: Size) -> Sheet {
     widest(size, i16::MIN)
 }
 
+/// Nearly all clauses are of rules: as the sheet of the most clauses, with one letter, and with no field
+/// in a template.
+pub fn mostly_rules() -> Sheet {
+    let size = Size {
+        letters: 1,
+        ..GREATEST
+    };
+    Sheet {
+        pairs: vec![read_pair(" ", size.letters)],
+        ..most_clauses(size)
+    }
+}
+
+/// Nearly all clauses are of pairs: as the sheet of the most clauses, without rules.
+pub fn mostly_pairs() -> Sheet {
+    most_clauses(Size {
+        rules: 0,
+        ..GREATEST
+    })
+}
+
 /// As many variables, and no sum is above its rule's limit, so that a field's text is free where another
 /// field has the same.
 pub fn most_variables(size: Size) -> Sheet {

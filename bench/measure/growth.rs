@@ -9,7 +9,7 @@ use crate::replies;
 use crate::search::{self, CADICAL};
 use crate::sheets;
 use crate::speller::FIELD_BYTES;
-use crate::timing;
+use crate::timing::{in_a_row, in_turn};
 use crate::{fail, progress, save, Setting};
 
 /// What grows: its name, where it starts and ends, and how it becomes part of a size.
@@ -74,7 +74,8 @@ pub fn plots(setting: &Setting) -> String {
         let sheet = sheets::encode(&families::tangled(size));
         let cadical = [CADICAL.to_string()];
         let answered = search::ask(effort, &sheet, &cadical[..usize::from(with_cadical)], None);
-        let call = timing::calls(effort, || call(&sheet, answered.clash));
+        let mut searched = in_a_row(|| call(&sheet, answered.clash));
+        let [call] = in_turn(effort, [&mut searched]);
         let mut times = vec![call.milliseconds(), answered.search.milliseconds()];
         times.extend(
             answered

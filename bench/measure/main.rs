@@ -75,9 +75,11 @@ mod race;
 mod replies;
 mod search;
 mod shops;
+mod sizes;
 mod strings;
 mod table;
 mod timing;
+mod whole;
 
 use std::fs;
 use std::time::Duration;
@@ -126,6 +128,8 @@ fn main() {
         solvers,
     };
     println!("{}", clauses::table_of(&setting));
+    println!("{}", sizes::table_of(&setting));
+    println!("{}", whole::table_of(&setting));
     println!("{}", lines::table_of(&setting));
     println!("{}", replies::table_of(&setting));
     println!("{}", search::tables(&setting));

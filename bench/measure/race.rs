@@ -45,9 +45,22 @@ impl Contender {
         }
     }
 
-    /// Runs it once, with its output in this file, which is emptied first. None if it was ended at its
-    /// limit.
-    fn run(&self, output: &str) -> io::Result<(Duration, Option<Ended>)> {
+    /// Runs it once, and answers how long that took. It must print this.
+    pub fn printing(&self, due: &[u8]) -> Duration {
+        match self.run() {
+            (time, Some(ended)) if ended.printed == due => time,
+            _ => fail(&format!("{} does not print what is due", self.program)),
+        }
+    }
+
+    /// Runs it once. None if it was ended at its limit.
+    fn run(&self) -> (Duration, Option<Ended>) {
+        let run = self.try_run("target/bench/printed");
+        run.unwrap_or_else(|error| fail(&format!("{}: {error}", self.program)))
+    }
+
+    /// Runs it, with its output in this file, which is emptied first.
+    fn try_run(&self, output: &str) -> io::Result<(Duration, Option<Ended>)> {
         let input = match &self.input {
             Some(file) => Stdio::from(File::open(file)?),
             None => Stdio::null(),
@@ -104,8 +117,7 @@ pub fn race(
             if !timings[number].has_more() {
                 continue;
             }
-            let run = contender.run("target/bench/printed");
-            match run.unwrap_or_else(|error| fail(&format!("{}: {error}", contender.program))) {
+            match contender.run() {
                 (time, Some(ended)) => {
                     timings[number].add(time);
                     judge(number, &ended);

@@ -17,7 +17,12 @@ pub fn verdict(most: f64, ratios: &[f64]) -> String {
     format!("\nA ratio of at most {most}: in {within} of {all} rows. The greatest: {greatest}.\n")
 }
 
-/// A ratio as tables show it.
+/// A ratio as tables show it: with two digits after the point, or up to four where they would be 0.
 pub fn times(ratio: f64) -> String {
-    format!("{ratio:.2}")
+    let digits = match ratio {
+        _ if ratio < 0.01 => 4,
+        _ if ratio < 0.1 => 3,
+        _ => 2,
+    };
+    format!("{ratio:.digits$}")
 }

@@ -82,9 +82,12 @@ impl Display for Timing {
     }
 }
 
-/// Milliseconds with three digits that count, or all before the point.
+/// Milliseconds with three digits that count, or all before the point, and nothing below a nanosecond.
 pub fn milliseconds(time: f64) -> String {
     let digits = match time {
+        _ if time < 0.001 => 6,
+        _ if time < 0.01 => 5,
+        _ if time < 0.1 => 4,
         _ if time < 1.0 => 3,
         _ if time < 10.0 => 2,
         _ if time < 100.0 => 1,
@@ -93,22 +96,35 @@ pub fn milliseconds(time: f64) -> String {
     format!("{time:.digits$} ms")
 }
 
-/// How long a call takes that may be too short for the clock: each time is of as many calls in a row as
-/// take a millisecond.
-pub fn calls(effort: Effort, mut call: impl FnMut()) -> Timing {
-    let mut timing = Timing::new(effort);
+/// Runs all of these in turn until each has had its runs. A run answers how long it took.
+pub fn in_turn<const N: usize>(
+    effort: Effort,
+    runs: [&mut dyn FnMut() -> Duration; N],
+) -> [Timing; N] {
+    let mut timed = runs.map(|run| (run, Timing::new(effort)));
+    while timed.iter().any(|(_, timing)| timing.has_more()) {
+        for (run, timing) in &mut timed {
+            if timing.has_more() {
+                timing.add(run());
+            }
+        }
+    }
+    timed.map(|(_, timing)| timing)
+}
+
+/// A run of a call that may be too short for the clock: of as many calls in a row as take a millisecond,
+/// the time of one.
+pub fn in_a_row(mut call: impl FnMut()) -> impl FnMut() -> Duration {
     let mut calls = 1;
-    while timing.has_more() {
+    move || loop {
         let began = Instant::now();
         for _ in 0..calls {
             call();
         }
         let time = began.elapsed();
-        if time < Duration::from_millis(1) {
-            calls *= 2;
-        } else {
-            timing.add(time / calls);
+        if time >= Duration::from_millis(1) {
+            return time / calls;
         }
+        calls *= 2;
     }
-    timing
 }
