@@ -1,5 +1,6 @@
-//! Measures the three programs and the library against plain programs and solvers, compares all that
-//! they print or hand over, prints tables in Markdown, and writes plots of how times grow.
+//! Measures the three programs and the library against plain programs and solvers, and calls of the library
+//! against others; compares all that they print or hand over, prints tables in Markdown, and writes plots
+//! of how times grow.
 //!
 //! Its words: `--quick` to compare more than to measure, `--before` where there is an earlier build of the
 //! library too, then sheets' files (`NAME.tpl`) that are searched besides the hard ones, then books' files
