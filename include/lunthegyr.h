@@ -45,7 +45,7 @@ enum tpl_refusal {
     TPL_BUFFER_TOO_SHORT = 26,     /* the buffer is shorter than the text */
     TPL_BUFFER_BELOW_FILLING = 27, /* the buffer is shorter than TPL_FIELD_BYTES bytes per field */
     TPL_LINE_NUMBER = 28,          /* no line has this number */
-    TPL_BUFFER_BELOW_LINE = 29,    /* the buffer is shorter than the line */
+    TPL_BUFFER_BELOW_LINE = 29,    /* the buffer is shorter than the line, or than the file */
     /* Of a solver's reply. */
     TPL_REPLY_SIZE = 30,           /* over TPL_REPLY_MOST bytes */
     TPL_LINE_END = 31,             /* the last line does not end */
@@ -133,9 +133,9 @@ int64_t tpl_search(const uint8_t *sheet, size_t n, uint8_t *filling, size_t cap)
  */
 #define TPL_LINE_MOST 80 /* no line has more bytes, its line feed counted */
 
-/* Counts what is in a sheet's clause file. Returns 0, with the number of variables in counts[0], the number C of clauses in counts[1], and
- * (C + 1) * TPL_LINE_MOST in counts[2], which is at least the file's size in bytes; or minus the number of the first refusal, which is one of
- * tpl_read's.
+/* Counts what is in a sheet's clause file. Returns 0, with the number of variables in counts[0], the number C of clauses in counts[1], and the
+ * file's size in bytes in counts[2], which is exactly the length of the lines 0 to C together; or minus the number of the first refusal, which is
+ * one of tpl_read's. No line is written to find the size.
  */
 int64_t tpl_count(const uint8_t *sheet, size_t n, uint64_t counts[3]);
 
@@ -146,6 +146,14 @@ int64_t tpl_count(const uint8_t *sheet, size_t n, uint64_t counts[3]);
  *   TPL_LINE_NUMBER, TPL_BUFFER_BELOW_LINE
  */
 int64_t tpl_line(const uint8_t *sheet, size_t n, uint64_t line, uint8_t *text, size_t cap);
+
+/* Writes a sheet's whole clause file, the lines 0 to C one after the other, into a buffer of cap bytes. Returns the file's length, with the file
+ * in the first bytes of the buffer and the later ones unchanged. No zero byte is added. The length is the size that tpl_count gives in
+ * counts[2], so that a buffer of this size is just long enough.
+ * Or it returns minus the number of the first refusal, which is one of tpl_read's, or else:
+ *   TPL_BUFFER_BELOW_LINE
+ */
+int64_t tpl_file(const uint8_t *sheet, size_t n, uint8_t *file, size_t cap);
 
 /* Reads the m bytes of a SAT solver's reply to a sheet's clause file, and believes none of it: what is accepted is a filling that clashes.
  * A reply is text. Lines that start with "c" are skipped; one line is "s SATISFIABLE"; the others are "v" and numbers, each after one

@@ -3,6 +3,7 @@
  * buffers of the named sizes on the largest sheets of tests/clauses.d and tests/search.d, and on a largest book. To be run in the repository's
  * folder. */
 #include <stdio.h>
+#include <stdlib.h>
 #include <string.h>
 #include "lunthegyr.h"
 
@@ -126,7 +127,7 @@ static void counting(void) {
     expect(tpl_count(sheet, 16, counts) == -TPL_BYTES_LEFT_OVER, "counting reads the sheet first");
     expect(is(counts, 5, 6, 7, 8), "a refusal leaves the clause counts");
     expect(tpl_count(sheet, 15, counts) == 0, "P's clauses are counted");
-    expect(is(counts, 6, 8, 720, 8), "P has 6 variables, 8 clauses and an allowance of 720, and no fourth count is written");
+    expect(is(counts, 6, 8, 69, 8), "P has 6 variables, 8 clauses and a file of 69 bytes, and no fourth count is written");
 }
 
 /* P's clause file, line by line. */
@@ -149,6 +150,30 @@ static void writing(void) {
         expect(tpl_line(sheet, 15, n, text, n % 2 ? sizeof text : length) == (int64_t)length, "a line of P has its length");
         expect(memcmp(text, lines[n], length) == 0, "a line of P is as it must be");
         expect(memcmp(text + length, before, sizeof text - length) == 0, "the bytes after a line stay");
+    }
+}
+
+/* P's clause file, which is all of these lines. */
+#define FILE_BYTES 69
+
+static void filing(void) {
+    uint8_t file[FILE_BYTES + 3], before[FILE_BYTES + 3];
+    char due[FILE_BYTES + 1] = "";
+    for (size_t n = 0; n < 9; n++) {
+        strcat(due, lines[n]);
+    }
+    memset(before, '.', sizeof before);
+    memcpy(file, before, sizeof file);
+    expect(tpl_file(sheet, 16, file, sizeof file) == -TPL_BYTES_LEFT_OVER, "writing a file reads the sheet first");
+    expect(tpl_file(sheet, 16, file, 0) == -TPL_BYTES_LEFT_OVER, "9 comes before 29");
+    expect(tpl_file(sheet, 15, file, 0) == -TPL_BUFFER_BELOW_LINE, "no bytes for a file are refused with 29");
+    expect(tpl_file(sheet, 15, file, FILE_BYTES - 1) == -TPL_BUFFER_BELOW_LINE, "68 bytes for P's file are refused with 29");
+    expect(memcmp(file, before, sizeof file) == 0, "a refusal leaves the file's buffer");
+    for (size_t cap = FILE_BYTES; cap <= sizeof file; cap++) {
+        memcpy(file, before, sizeof file);
+        expect(tpl_file(sheet, 15, file, cap) == FILE_BYTES, "P's file has 69 bytes, which are enough for it");
+        expect(memcmp(file, due, FILE_BYTES) == 0, "P's file is its lines, one after the other");
+        expect(memcmp(file + FILE_BYTES, before, sizeof file - FILE_BYTES) == 0, "the bytes after a file stay");
     }
 }
 
@@ -284,18 +309,48 @@ static size_t read_digits(const char *name, uint8_t large[TPL_SHEET_MOST]) {
     return n;
 }
 
-/* Every line fits in TPL_LINE_MOST bytes, and the lines together in the size allowance. */
+/* A buffer of one byte less than a large file's size is refused, and one of its size is enough, with the byte after it unchanged. */
+static void whole_file(const uint8_t *large, size_t n, uint8_t *file, size_t size) {
+    size_t changed = 0;
+    memset(file, '.', size + 1);
+    expect(tpl_file(large, n, file, size - 1) == -TPL_BUFFER_BELOW_LINE, "one byte less for a large file is refused with 29");
+    for (size_t i = 0; i <= size; i++) {
+        changed += file[i] != '.';
+    }
+    expect(changed == 0, "a refusal leaves the buffer of a large file");
+    expect(tpl_file(large, n, file, size) == (int64_t)size, "a large file has the size that is counted");
+    expect(file[size] == '.', "the byte after a large file stays");
+}
+
+/* Every line fits in TPL_LINE_MOST bytes, and the file is the lines one after the other. */
 static void all_lines(const uint8_t *large, size_t n) {
     uint8_t text[TPL_LINE_MOST];
-    uint64_t counts[3] = { 0, 0, 0 }, size = 0;
-    expect(tpl_count(large, n, counts) == 0 && counts[1] > 0, "a large sheet's clauses are counted");
+    uint64_t counts[3] = { 0, 0, 0 };
+    size_t size, at = 0;
+    uint8_t *file;
+    int same = 1;
+    expect(tpl_count(large, n, counts) == 0 && counts[1] > 0 && counts[2] > 0, "a large sheet's clauses and bytes are counted");
+    size = (size_t)counts[2];
+    file = (uint8_t *)malloc(size + 1);
+    if (file == NULL || size == 0) {
+        expect(0, "there is a large file, and memory for it");
+        free(file);
+        return;
+    }
+    whole_file(large, n, file, size);
     for (uint64_t line = 0; line <= counts[1]; line++) {
         int64_t length = tpl_line(large, n, line, text, sizeof text);
-        expect(length > 0 && length <= TPL_LINE_MOST && text[length - 1] == '\n', "a line of a large sheet fits");
-        size += length > 0 ? (uint64_t)length : 0;
+        int fits = length > 0 && length <= TPL_LINE_MOST && text[length - 1] == '\n';
+        expect(fits, "a line of a large sheet fits");
+        if (fits) {
+            same = same && at + (size_t)length <= size && memcmp(file + at, text, (size_t)length) == 0;
+            at += (size_t)length;
+        }
     }
+    expect(same, "a large file has each line at its place");
+    expect(at == size, "the size of a large file is the length of all its lines");
     expect(tpl_line(large, n, counts[1] + 1, text, sizeof text) == -TPL_LINE_NUMBER, "no line comes after the last clause");
-    expect(counts[2] == (counts[1] + 1) * TPL_LINE_MOST && size <= counts[2], "the lines are no longer than the size allowance");
+    free(file);
 }
 
 /* Every template's text under a filling that clashes fits in TPL_TEXT_MOST bytes, and has the length that is due. */
@@ -369,6 +424,7 @@ int main(void) {
     searching();
     counting();
     writing();
+    filing();
     replying();
     listing();
     largest_book();
@@ -381,7 +437,7 @@ int main(void) {
     if (!all_passed) {
         return 1;
     }
-    puts("C header: the eight calls answer as they must on P and on a small book, its constants are the documents' numbers, and buffers of its "
+    puts("C header: the nine calls answer as they must on P and on a small book, its constants are the documents' numbers, and buffers of its "
          "sizes are enough");
     return 0;
 }
