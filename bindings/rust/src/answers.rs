@@ -20,8 +20,8 @@ pub struct ClauseCounts {
     pub variables: u64,
     /// Clauses. The file has a line for each, after line 0.
     pub clauses: u64,
-    /// 80 bytes for each line, which is at least the file's size.
-    pub allowance: u64,
+    /// Bytes: the length of all lines together.
+    pub bytes: u64,
 }
 
 /// Whether a filling clashes.

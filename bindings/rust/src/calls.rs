@@ -1,4 +1,4 @@
-//! The engine's eight calls, over any bytes and lent buffers. Each answers, or gives the first refusal in the order of documents 01 and 02,
+//! The engine's nine calls, over any bytes and lent buffers. Each answers, or gives the first refusal in the order of documents 01 and 02,
 //! with all that was lent to it as it was. They allocate nothing.
 
 use crate::engine;
@@ -119,7 +119,7 @@ pub fn search(sheet: &[u8], filling: &mut [u8]) -> Result<Searched, Refusal> {
 ///
 /// ```
 /// let counts = lunthegyr::calls::count(b"TPL\x00\x01\x01\x01\x01\x00A\x01\x01\x01\x80\x00")?;
-/// assert_eq!((counts.variables, counts.clauses, counts.allowance), (6, 8, 720));
+/// assert_eq!((counts.variables, counts.clauses, counts.bytes), (6, 8, 69));
 /// # Ok::<(), lunthegyr::Refusal>(())
 /// ```
 pub fn count(sheet: &[u8]) -> Result<ClauseCounts, Refusal> {
@@ -131,11 +131,11 @@ pub fn count(sheet: &[u8]) -> Result<ClauseCounts, Refusal> {
     };
     let mut counts = [0; 3];
     CALL.outcome(engine::count(sheet, &mut counts))?;
-    let [variables, clauses, allowance] = counts;
+    let [variables, clauses, bytes] = counts;
     Ok(ClauseCounts {
         variables,
         clauses,
-        allowance,
+        bytes,
     })
 }
 
@@ -159,6 +159,29 @@ pub fn line(sheet: &[u8], line: u64, text: &mut [u8]) -> Result<usize, Refusal> 
         own: &[28, 29],
     };
     call.outcome(engine::line(sheet, line, text))
+}
+
+/// Writes a sheet's whole clause file, all lines one after the other. Answers the file's length, which is the [`bytes`](ClauseCounts::bytes)
+/// that [`count`] gives, with the file in the first bytes of `buffer` and the later ones as they were; or one of the refusals 1 to 15 and 29,
+/// with all bytes as they were.
+///
+/// ```
+/// use lunthegyr::calls;
+///
+/// let sheet = b"TPL\x00\x01\x01\x01\x01\x00A\x00\x01\x01\x80\x00";
+/// let mut buffer = vec![0; calls::count(sheet)?.bytes as usize];
+/// assert_eq!(calls::file(sheet, &mut buffer), Ok(19));
+/// assert_eq!(buffer, b"p cnf 2 2\n1 0\n-1 0\n");
+/// # Ok::<(), lunthegyr::Refusal>(())
+/// ```
+pub fn file(sheet: &[u8], buffer: &mut [u8]) -> Result<usize, Refusal> {
+    let call = Call {
+        name: "tpl_file",
+        greatest: buffer.len(),
+        reads: OF_SHEET,
+        own: &[29],
+    };
+    call.outcome(engine::file(sheet, buffer))
 }
 
 /// Reads a SAT solver's reply to a sheet's clause file, and believes none of it: what is accepted is a filling that clashes. It is put
@@ -230,6 +253,7 @@ mod tests {
         assert_eq!(search(&sheet, &mut []), Err(refused));
         assert_eq!(count(&sheet), Err(refused));
         assert_eq!(line(&sheet, 9, &mut []), Err(refused));
+        assert_eq!(file(&sheet, &mut []), Err(refused));
         assert_eq!(reply(&sheet, &[], &mut []), Err(refused));
     }
 
@@ -246,6 +270,9 @@ mod tests {
 
     #[test]
     fn a_buffer_that_is_too_short_stays_as_it_was() {
+        let mut short = [b'.'; P_FILE.len() - 1];
+        assert_eq!(file(&P, &mut short), Err(Refusal::BufferBelowLine));
+        assert_eq!(short, [b'.'; P_FILE.len() - 1]);
         let mut buffer = [b'.'; 8];
         assert_eq!(book(&BOOK, &mut buffer[..3]), Err(Refusal::BufferBelowList));
         assert_eq!(
@@ -269,6 +296,9 @@ mod tests {
         let mut line_0 = [b'.'; 12];
         assert_eq!(line(&P, 0, &mut line_0), Ok(10));
         assert_eq!(line_0, *b"p cnf 6 8\n..");
+        let mut whole = [b'.'; P_FILE.len() + 2];
+        assert_eq!(file(&P, &mut whole), Ok(P_FILE.len()));
+        assert_eq!(whole[..], [P_FILE, b".."].concat());
         let mut found = [b'.'; 11];
         assert_eq!(search(&P, &mut found), Ok(Searched::Clash));
         assert_eq!((&found[..9], &found[9..]), (&IS_A[..], &b".."[..]));
@@ -288,6 +318,9 @@ mod tests {
         assert_eq!(spell(&P, 0, 1, &IS_A, &mut exact[..1]), Ok(1));
         let mut line_0 = [0; 10];
         assert_eq!(line(&P, 0, &mut line_0), Ok(10));
+        let mut whole = [0; P_FILE.len()];
+        assert_eq!(file(&P, &mut whole), Ok(P_FILE.len()));
+        assert_eq!(whole, P_FILE);
         assert_eq!(book(&BOOK, &mut [0; 4]), Ok(2));
         // A book of one template has no pairs.
         assert_eq!(book(b"TPB\x00\x01\x01A\x01\x00\x00", &mut []), Ok(0));
@@ -334,6 +367,17 @@ mod tests {
         }
         assert_eq!(line(&P, 9, &mut text), Err(Refusal::LineNumber));
         assert_eq!(line(&P, u64::MAX, &mut text), Err(Refusal::LineNumber));
+    }
+
+    #[test]
+    fn variables_clauses_and_bytes_are_not_exchanged() {
+        let counts = ClauseCounts {
+            variables: 6,
+            clauses: 8,
+            bytes: 69,
+        };
+        assert_eq!(count(&P), Ok(counts));
+        assert_eq!(P_FILE.len(), 69);
     }
 
     #[test]

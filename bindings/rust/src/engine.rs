@@ -19,6 +19,7 @@ extern "C" {
     fn tpl_search(sheet: *const u8, n: usize, filling: *mut u8, cap: usize) -> i64;
     fn tpl_count(sheet: *const u8, n: usize, counts: *mut u64) -> i64;
     fn tpl_line(sheet: *const u8, n: usize, line: u64, text: *mut u8, cap: usize) -> i64;
+    fn tpl_file(sheet: *const u8, n: usize, file: *mut u8, cap: usize) -> i64;
     fn tpl_reply(
         sheet: *const u8,
         n: usize,
@@ -84,6 +85,11 @@ pub fn line(sheet: &[u8], line: u64, text: &mut [u8]) -> i64 {
             text.len(),
         )
     }
+}
+
+pub fn file(sheet: &[u8], file: &mut [u8]) -> i64 {
+    // SAFETY: the pointers lead to `sheet.len()` and `file.len()` bytes.
+    unsafe { tpl_file(sheet.as_ptr(), sheet.len(), file.as_mut_ptr(), file.len()) }
 }
 
 pub fn reply(sheet: &[u8], reply: &[u8], filling: &mut [u8]) -> i64 {

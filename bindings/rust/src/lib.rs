@@ -32,7 +32,7 @@
 //! # Ok::<(), lunthegyr::Refusal>(())
 //! ```
 //!
-//! [`Book`], [`Sheet`] and [`Filling`] are for most uses. The module [`calls`] has the engine's eight calls over any bytes and lent buffers; it
+//! [`Book`], [`Sheet`] and [`Filling`] are for most uses. The module [`calls`] has the engine's nine calls over any bytes and lent buffers; it
 //! allocates nothing.
 
 #![deny(missing_docs)]

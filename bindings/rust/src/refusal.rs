@@ -53,7 +53,7 @@ pub enum Refusal {
     BufferBelowFilling = 27,
     /// 28: no line has the number.
     LineNumber = 28,
-    /// 29: the buffer is shorter than the line.
+    /// 29: the buffer is shorter than the line, or than the file.
     BufferBelowLine = 29,
     /// 30: the reply is too long.
     ReplySize = 30,
@@ -174,7 +174,9 @@ impl Refusal {
             Refusal::BufferTooShort => "the buffer is shorter than the text; 24 bytes are always enough",
             Refusal::BufferBelowFilling => "the buffer is shorter than 9 bytes for each field; 54 bytes are always enough",
             Refusal::LineNumber => "no line has this number: lines count from 0 up to the clause count",
-            Refusal::BufferBelowLine => "the buffer is shorter than the line; 80 bytes are always enough",
+            Refusal::BufferBelowLine => {
+                "the buffer is shorter than the line, for which 80 bytes are always enough, or than the clause file"
+            }
             Refusal::ReplySize => "the reply has more than 65,536 bytes",
             Refusal::LineEnd => "the reply's last byte is not a line feed",
             Refusal::UnknownLine => {

@@ -1,7 +1,7 @@
 //! An accepted sheet, and all that can be asked of it.
 
 use crate::answers::{Checked, ClauseCounts, Counts, Searched, Side};
-use crate::{calls, Filling, Refusal, FIELD_BYTES, FILLING_MOST, LINE_MOST, TEXT_MOST};
+use crate::{calls, Filling, Refusal, FIELD_BYTES, FILLING_MOST, TEXT_MOST};
 
 /// Where a sheet's letters start.
 const HEADER_BYTES: usize = 9;
@@ -124,7 +124,7 @@ impl Sheet {
         }
     }
 
-    /// How many variables and clauses its clause file has.
+    /// How many variables, clauses and bytes its clause file has.
     pub fn clause_counts(&self) -> ClauseCounts {
         calls::count(&self.bytes).expect(ACCEPTED)
     }
@@ -137,13 +137,8 @@ impl Sheet {
     /// # Ok::<(), lunthegyr::Refusal>(())
     /// ```
     pub fn clause_file(&self) -> Vec<u8> {
-        let counts = self.clause_counts();
-        let mut file = Vec::with_capacity(counts.allowance as usize);
-        let mut text = [0; LINE_MOST];
-        for line in 0..=counts.clauses {
-            let length = calls::line(&self.bytes, line, &mut text).expect(ACCEPTED);
-            file.extend_from_slice(&text[..length]);
-        }
+        let mut file = vec![0; self.clause_counts().bytes as usize];
+        calls::file(&self.bytes, &mut file).expect(ACCEPTED);
         file
     }
 
@@ -174,6 +169,7 @@ impl Sheet {
 mod tests {
     use super::*;
     use crate::samples::{sheet_of, P, P_FILE};
+    use crate::LINE_MOST;
 
     fn p() -> Sheet {
         Sheet::read(P).unwrap()
@@ -277,17 +273,27 @@ mod tests {
         assert_eq!(p().clause_file(), P_FILE);
     }
 
+    /// All lines of a sheet's clause file, asked for one by one.
+    fn by_lines(sheet: &Sheet) -> Vec<u8> {
+        let mut file = Vec::new();
+        let mut text = [0; LINE_MOST];
+        for line in 0..=sheet.clause_counts().clauses {
+            let length = calls::line(&sheet.bytes, line, &mut text).unwrap();
+            file.extend_from_slice(&text[..length]);
+        }
+        file
+    }
+
     #[test]
     fn the_clause_file_of_the_most_clauses_is_whole() {
         let sheet = sheet_of(include_str!("../../../tests/clauses.d/most_clauses.sheet"));
         let counts = sheet.clause_counts();
         let file = sheet.clause_file();
         assert_eq!(counts.clauses, 45_822);
-        assert_eq!(counts.allowance, 45_823 * 80);
-        assert_eq!(file.iter().filter(|byte| **byte == b'\n').count(), 45_823);
-        assert!(file.len() <= counts.allowance as usize);
+        assert_eq!(counts.bytes, 920_561);
         let first = format!("p cnf {} {}\n", counts.variables, counts.clauses);
         assert!(file.starts_with(first.as_bytes()));
+        assert_eq!(file, by_lines(&sheet));
     }
 
     #[test]
