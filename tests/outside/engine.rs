@@ -29,12 +29,15 @@ extern "C" {
     /// last two without a filling.
     pub fn tpl_search(sheet: *const u8, n: usize, filling: *mut u8, cap: usize) -> i64;
 
-    /// Answers 0 and the counts of variables and clauses and the size allowance, or minus the
-    /// refusal's number and no counts.
+    /// Answers 0 and the counts of variables, clauses and bytes, or minus the refusal's number and no
+    /// counts.
     fn tpl_count(sheet: *const u8, n: usize, counts: *mut u64) -> i64;
 
     /// Answers the line's length and the line, or minus the refusal's number and no line.
     fn tpl_line(sheet: *const u8, n: usize, line: u64, text: *mut u8, cap: usize) -> i64;
+
+    /// Answers the file's length and the file, or minus the refusal's number and no file.
+    fn tpl_file(sheet: *const u8, n: usize, file: *mut u8, cap: usize) -> i64;
 
     /// Answers 0 and the filling, or minus the refusal's number and no filling.
     pub fn tpl_reply(
@@ -60,9 +63,16 @@ pub struct Outcome<T> {
     pub rest_unchanged: bool,
 }
 
+/// So many of the values that were lent are shown.
+const SHOWN: usize = 400;
+
 impl<T: fmt::Debug> fmt::Display for Outcome<T> {
     fn fmt(&self, out: &mut fmt::Formatter) -> fmt::Result {
-        write!(out, "{}, leaving {:02X?}", self.status, self.lent)?;
+        let shown = &self.lent[..self.lent.len().min(SHOWN)];
+        write!(out, "{}, leaving {shown:02X?}", self.status)?;
+        if shown.len() < self.lent.len() {
+            write!(out, " and more, {} in all", self.lent.len())?;
+        }
         if !self.rest_unchanged {
             write!(out, ", and other lent or near bytes changed")?;
         }
@@ -211,6 +221,19 @@ pub fn line(sheet: &[u8], number: u64, room: usize) -> Outcome<u8> {
         status,
         lent: text.after(status.max(0) as usize),
         rest_unchanged: bytes.unchanged() && text.margins_unchanged(),
+    }
+}
+
+/// Calls `tpl_file` on a copy of `sheet`, with a buffer of `room` bytes.
+pub fn file(sheet: &[u8], room: usize) -> Outcome<u8> {
+    let mut bytes = Lent::to_read(sheet, &SHEET_MARGIN);
+    let mut file = Lent::to_write(&buffer_before(room), &WRITTEN_MARGIN);
+    // The pointers lead to `sheet.len()` and `room` bytes.
+    let status = unsafe { tpl_file(bytes.pointer(), sheet.len(), file.pointer(), room) };
+    Outcome {
+        status,
+        lent: file.after(status.max(0) as usize),
+        rest_unchanged: bytes.unchanged() && file.margins_unchanged(),
     }
 }
 

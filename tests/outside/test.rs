@@ -11,7 +11,10 @@ use crate::shapes;
 use crate::speller::{self, Spelling, Verdict};
 use crate::tally::Tally;
 use crate::writer::{Written, KINDS};
-use std::fmt::Debug;
+use std::fmt::{self, Debug};
+
+/// How long a buffer is that takes a whole file.
+const FILE_ROOMS: [&str; 2] = ["just long enough", "longer"];
 
 pub struct Test {
     pub random: Random,
@@ -20,6 +23,7 @@ pub struct Test {
     spell: Tally,
     count: Tally,
     line: Tally,
+    file: Tally,
     book: Tally,
     shapes: Tally,
     faults: Tally,
@@ -41,6 +45,7 @@ impl Test {
             spell: Tally::new("tpl_spell", &spell_answers, (1..=15).chain(20..=26)),
             count: Tally::new("tpl_count", &["counted"], 1..=15),
             line: Tally::new("tpl_line", &KINDS, (1..=15).chain(28..=29)),
+            file: Tally::new("tpl_file", &FILE_ROOMS, (1..=15).chain(29..=29)),
             book: Tally::new("tpl_book", &listed::BOOK_KINDS, 40..=42),
             shapes: Tally::new("counted sheets with", &shapes::names(shapes::ALL), 0..0),
             faults: listed::faults(),
@@ -58,13 +63,14 @@ impl Test {
         self.calls().iter().map(|tally| tally.total()).sum()
     }
 
-    fn calls(&self) -> [&Tally; 6] {
+    fn calls(&self) -> [&Tally; 7] {
         [
             &self.read,
             &self.check,
             &self.spell,
             &self.count,
             &self.line,
+            &self.file,
             &self.book,
         ]
     }
@@ -157,6 +163,23 @@ impl Test {
         self.line.count(answer);
     }
 
+    /// Compares how the whole file is written into a buffer of `room` bytes.
+    pub fn file(&mut self, written: &Written, room: usize) {
+        let mut buffer = engine::buffer_before(room);
+        let (status, answer) = match written.whole(room) {
+            Ok(file) => {
+                buffer[..file.len()].copy_from_slice(&file);
+                let longer = usize::from(file.len() < room);
+                (file.len() as i64, Ok(FILE_ROOMS[longer]))
+            }
+            Err(refusal) => (status(refusal), Err(refusal as u8)),
+        };
+        let sheet = &written.sheet;
+        let case: &Case = &[("sheet", &Hex(sheet)), ("buffer of", &room)];
+        hold(engine::file(sheet, room), due(status, &buffer), case);
+        self.file.count(answer);
+    }
+
     /// Compares the list of a book, which has this list or this fault, in a buffer of `room` bytes.
     pub fn book(&mut self, bytes: &[u8], list: Result<&[u8], Fault>, room: usize) {
         let mut buffer = engine::buffer_before(room);
@@ -184,12 +207,13 @@ impl Test {
         }
         println!(
             "outside: the library agrees on {} sheets, {} fillings, {} spellings, {} clause counts, \
-             {} lines and {} lists",
+             {} lines, {} files and {} lists",
             self.read.total(),
             self.check.total(),
             self.spell.total(),
             self.count.total(),
             self.line.total(),
+            self.file.total(),
             self.book.total()
         );
     }
@@ -209,9 +233,23 @@ pub fn due<T: Clone>(status: i64, lent: &[T]) -> Outcome<T> {
     }
 }
 
+/// The first place at which what two calls left behind differs.
+struct Place<'a, T>(&'a Outcome<T>, &'a Outcome<T>);
+
+impl<T: PartialEq> fmt::Display for Place<'_, T> {
+    fn fmt(&self, out: &mut fmt::Formatter) -> fmt::Result {
+        let mut both = self.0.lent.iter().zip(&self.1.lent);
+        match both.position(|(one, other)| one != other) {
+            Some(place) => write!(out, "{place}"),
+            None => write!(out, "no place"),
+        }
+    }
+}
+
 /// Fails if the library did not answer what is due.
 pub fn hold<T: PartialEq + Debug>(got: Outcome<T>, due: Outcome<T>, case: &Case) {
-    let answers: &Case = &[("plain", &due), ("library", &got)];
+    let place = Place(&got, &due);
+    let answers: &Case = &[("plain", &due), ("library", &got), ("differ at", &place)];
     require(
         got == due,
         "the library's answer to this is not the plain one",

@@ -1,7 +1,8 @@
-//! A plain writer of clause files, written from document 01 alone ("Counting", "Writing line n",
-//! "Clauses"). The library's answers are compared with it. It knows nothing of the library: a
-//! variable's number is its place in a list of all variables, and a clause is built in document
-//! 01's words before anything is left out of it.
+//! A plain writer of clause files, written from document 01 ("Counting", "Writing line n", "Clauses")
+//! and document 02, No. 4, alone. The library's answers are compared with it. It knows nothing of the
+//! library: a variable's number is its place in a list of all variables, a clause is built in document
+//! 01's words before anything is left out of it, and a file's size is the length of the lines that it
+//! has written.
 
 use crate::reader::{self, Pair, Rule, Sheet, Symbol};
 use crate::refusal::Refusal;
@@ -38,19 +39,20 @@ pub const KINDS: [&str; 13] = [
     "T, above the limit",
 ];
 
-/// The allowance for each line.
-const LINE_ALLOWANCE: usize = 80;
-
 impl File {
     /// C.
     pub fn clauses(&self) -> usize {
         self.lines.len() - 1
     }
 
-    /// What counting answers: variables, clauses, allowance.
+    /// How many bytes all lines have together.
+    pub fn size(&self) -> usize {
+        self.lines.iter().map(|line| line.bytes.len()).sum()
+    }
+
+    /// What counting answers: variables, clauses, bytes.
     pub fn counts(&self) -> [u64; 3] {
-        let allowance = (self.clauses() + 1) * LINE_ALLOWANCE;
-        [self.variables, self.clauses(), allowance].map(|count| count as u64)
+        [self.variables, self.clauses(), self.size()].map(|count| count as u64)
     }
 
     /// Line `number` for a buffer of `room` bytes, or the refusal.
@@ -86,6 +88,16 @@ impl Written {
     pub fn line(&self, number: u64, room: usize) -> Result<&Line, Refusal> {
         match &self.file {
             Ok(file) => file.line(number, room),
+            Err(refusal) => Err(*refusal),
+        }
+    }
+
+    /// The whole file for a buffer of `room` bytes, or the refusal: of the sheet, or else of a buffer
+    /// that is shorter than the file.
+    pub fn whole(&self, room: usize) -> Result<Vec<u8>, Refusal> {
+        match &self.file {
+            Ok(file) if room < file.size() => Err(Refusal::BufferBelowLine),
+            Ok(file) => Ok(file.bytes()),
             Err(refusal) => Err(*refusal),
         }
     }

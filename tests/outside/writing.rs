@@ -1,4 +1,4 @@
-//! The parts of the test that count clauses and write lines of clause files.
+//! The parts of the test that count what is in clause files, and write their lines and whole files.
 
 use crate::changes::each_value_of_each_byte;
 use crate::random::Random;
@@ -45,7 +45,10 @@ p cnf 6 8
 -5 0
 ";
 
-/// Holds the writer itself to document 01's own file, and the library too.
+/// Variables, clauses, bytes.
+const COUNTS_OF_P: [u64; 3] = [6, 8, 69];
+
+/// Holds the writer itself to document 01's own file and document 02's size of it, and the library too.
 fn known_file(test: &mut Test) {
     let written = writer::write(sheets::P);
     let bytes = accepted(&written).bytes();
@@ -56,6 +59,12 @@ fn known_file(test: &mut Test) {
             ("file", &String::from_utf8_lossy(&bytes)),
             ("due", &FILE_OF_P),
         ],
+    );
+    let counts = accepted(&written).counts();
+    require(
+        counts == COUNTS_OF_P,
+        "P has other counts",
+        &[("counts", &format!("{counts:?}"))],
     );
     every_line(test, &written, 100);
 }
@@ -75,9 +84,9 @@ fn line_numbers(c: u64) -> Vec<u64> {
     numbers
 }
 
-/// Lengths of buffers for a line of this length.
-fn rooms(line: usize) -> [usize; 8] {
-    [0, 1, line - 1, line, line + 1, line + 2, ROOMY, 300]
+/// Lengths of buffers for a line or a file of this length.
+fn rooms(length: usize) -> [usize; 8] {
+    [0, 1, length - 1, length, length + 1, length + 2, ROOMY, 300]
 }
 
 /// Each line number with each buffer.
@@ -90,6 +99,9 @@ fn all_numbers(test: &mut Test) {
             for room in rooms(length(&written, number)) {
                 test.line(&written, number, room);
             }
+        }
+        for room in rooms(accepted(&written).size()) {
+            test.file(&written, room);
         }
         test.count(&written);
     }
@@ -233,8 +245,8 @@ pub fn vary(random: &mut Random, sheet: &mut Sheet) {
     }
 }
 
-/// The counts and all lines, each in a buffer that is long enough, and in `also_short` of 100 cases
-/// in one that is not.
+/// The counts, the whole file and all lines, each in a buffer that is long enough, and in `also_short`
+/// of 100 cases in one that is not.
 fn every_line(test: &mut Test, written: &Written, also_short: usize) {
     let file = match &written.file {
         Ok(file) => file,
@@ -249,7 +261,8 @@ fn every_line(test: &mut Test, written: &Written, also_short: usize) {
     }
 }
 
-/// The counts and `times` lines, each in a buffer that is long enough and in one that is not.
+/// The counts, the whole file and `times` lines, each in a buffer that is long enough and in one that
+/// is not.
 fn some_lines(test: &mut Test, written: &Written, times: usize) {
     let file = match &written.file {
         Ok(file) => file,
@@ -263,16 +276,19 @@ fn some_lines(test: &mut Test, written: &Written, times: usize) {
     }
 }
 
-/// The counts, and a line above those that there are.
+/// The counts, the whole file, and a line above those that there are.
 fn compare_counts(test: &mut Test, written: &Written, file: &File) {
-    let [_, clauses, allowance] = file.counts();
+    let clauses = file.clauses() as u64;
     let fits = |line: &Line| line.bytes.len() <= ROOMY;
     require(
-        file.bytes().len() as u64 <= allowance && file.lines.iter().all(fits),
-        "the allowance is below the file's bytes, or a line is longer than 80",
-        &[("sheet", &Hex(&written.sheet)), ("allowance", &allowance)],
+        file.lines.iter().all(fits),
+        "a line is longer than 80",
+        &[("sheet", &Hex(&written.sheet))],
     );
     test.count(written);
+    for room in [room(test, file.size()), short_room(test, file.size())] {
+        test.file(written, room);
+    }
     for room in [0, ROOMY] {
         test.line(written, clauses + 1, room);
         let above = test.random.one_of(&[1 << 32, 1 << 63, u64::MAX - clauses]);
@@ -282,24 +298,34 @@ fn compare_counts(test: &mut Test, written: &Written, file: &File) {
 }
 
 fn compare_line(test: &mut Test, written: &Written, number: u64) {
-    let length = length(written, number);
-    let longer = length + test.random.within(1, 40);
-    let room = test.random.one_of(&[length, length, length + 1, longer]);
+    let room = room(test, length(written, number));
     test.line(written, number, room);
 }
 
 fn compare_short(test: &mut Test, written: &Written, number: u64) {
-    let length = length(written, number);
-    let shorter = test.random.below(length);
-    let room = test
-        .random
-        .one_of(&[length - 1, length - 1, length - 1, shorter]);
+    let room = short_room(test, length(written, number));
     test.line(written, number, room);
 }
 
-/// A refused sheet's counts, its line 0 and a line that no sheet has.
+/// The length of a buffer that is long enough for so many bytes, often just so.
+fn room(test: &mut Test, length: usize) -> usize {
+    let longer = length + test.random.within(1, 40);
+    test.random.one_of(&[length, length, length + 1, longer])
+}
+
+/// The length of a buffer that is shorter, most often by one byte.
+fn short_room(test: &mut Test, length: usize) -> usize {
+    let shorter = test.random.below(length);
+    let short = length - 1;
+    test.random.one_of(&[short, short, short, shorter])
+}
+
+/// A refused sheet's counts, its line 0 and a line that no sheet has, and its file.
 fn compare_refused(test: &mut Test, written: &Written) {
     test.count(written);
     test.line(written, 0, ROOMY);
     test.line(written, u64::MAX, 0);
+    for room in [0, ROOMY] {
+        test.file(written, room);
+    }
 }
