@@ -4,7 +4,7 @@
 
 use crate::book::{MOST_TEMPLATES, PAIR_BYTES};
 use crate::engine::{self, buffer_before, filling_bytes, Outcome, COUNTS_BEFORE};
-use crate::listed::{self, Call, LONGEST_LINE, LONGEST_TEXT};
+use crate::listed::{self, Call, LONGEST_LINE, LONGEST_TEXT, SHORTEST_LINE};
 use crate::reader::{HEADER_BYTES, MOST_FIELDS, MOST_LETTERS, MOST_PAIRS, MOST_RULES};
 use crate::report::{require, Case, Hex};
 use crate::speller::Spelling;
@@ -91,17 +91,17 @@ impl Calls {
         got
     }
 
-    /// `tpl_count`; there are variables and clauses, and the allowance is that of the clauses.
+    /// `tpl_count`; there are variables and clauses, and each line has some bytes, and not too many.
     pub fn count(&mut self, sheet: &[u8]) -> Outcome<u64> {
         let before = &COUNTS_BEFORE[..3];
         let case: &Case = &[("sheet", &Hex(sheet))];
         let got = self.hold(Call::Count, before, 3, case, || engine::count(sheet));
         if got.status == 0 {
-            let [variables, clauses, allowance] = [got.lent[0], got.lent[1], got.lent[2]];
-            let lines = clauses.checked_add(1);
-            let due = lines.and_then(|lines| lines.checked_mul(LONGEST_LINE as u64));
+            let [variables, clauses, bytes] = [got.lent[0], got.lent[1], got.lent[2]];
+            let length = bytes / clauses.saturating_add(1);
+            let fits = (SHORTEST_LINE as u64..=LONGEST_LINE as u64).contains(&length);
             require(
-                variables > 0 && clauses > 0 && due == Some(allowance),
+                variables > 0 && clauses > 0 && fits,
                 "no file has these counts",
                 &[case, &[("counts", &got)]].concat(),
             );
@@ -134,6 +134,22 @@ impl Calls {
                 fits,
                 "a line has no form of a line",
                 &[case, &[("line", &got)]].concat(),
+            );
+        }
+        got
+    }
+
+    /// `tpl_file`; it starts as line 0 does, and ends as a clause does.
+    pub fn file(&mut self, sheet: &[u8], room: usize) -> Outcome<u8> {
+        let before = buffer_before(room);
+        let case: &Case = &[("sheet", &Hex(sheet)), ("buffer of", &room)];
+        let got = self.hold(Call::File, &before, 0, case, || engine::file(sheet, room));
+        if got.status > 0 {
+            let file = &got.lent[..got.status as usize];
+            require(
+                file.starts_with(b"p cnf ") && file.ends_with(b" 0\n"),
+                "a file has no form of a file",
+                &[case, &[("file", &got)]].concat(),
             );
         }
         got
@@ -187,7 +203,7 @@ impl Calls {
         let got = run();
         let written = match call {
             _ if got.status < 0 => 0,
-            Call::Spell | Call::Line => got.status as usize,
+            Call::Spell | Call::Line | Call::File => got.status as usize,
             Call::Book => PAIR_BYTES.saturating_mul(got.status as usize),
             _ => most,
         };

@@ -11,11 +11,12 @@ use crate::turn::{Answers, Turn};
 
 /// How often it is tried whether the length of a buffer is just what it must be.
 const BUFFERS_PERCENT: usize = 15;
-/// How often the last line and those beyond it are asked for, and how often all lines.
+/// How often the last line and those beyond it are asked for.
 const LAST_LINE_PERCENT: usize = 15;
-const ALL_LINES_PERCENT: usize = 3;
-/// All lines of a file with more clauses are not asked for.
-const MOST_CLAUSES: u64 = 150;
+/// How often a whole file is asked for, one of at most so many bytes and a larger one.
+const SMALL_FILE: usize = 1500;
+const SMALL_FILE_PERCENT: usize = 3;
+const LARGE_FILE_PERCENT: usize = 1;
 
 const TOO_SHORT_FOR_TEXT: i64 = -(Refusal::BufferTooShort as i64);
 const TOO_SHORT_FOR_FILLING: i64 = -(Refusal::BufferBelowFilling as i64);
@@ -28,10 +29,11 @@ impl Turn<'_> {
     pub fn beyond(&mut self, answers: &Answers) {
         let input = self.input;
         let [fields, pairs] = [answers.read.lent[1], answers.read.lent[2]];
-        let clauses = answers.count.lent[1];
+        let [clauses, bytes] = [answers.count.lent[1], answers.count.lent[2]];
         let size = FIELD_BYTES * fields as usize;
         let (no_pair, no_side) = (input.pair >= pairs, input.side > 1);
         let (no_room, no_size) = (input.room < size, input.filling.len() != size);
+        let below_file = (input.room as u64) < bytes;
         let too_long = input.reply.len() > MOST_BYTES;
         let (search, reply) = (answers.search.status, answers.reply.status);
         for (status, refusal, due) in [
@@ -40,6 +42,7 @@ impl Turn<'_> {
             (answers.spell, Refusal::Side, !no_pair && no_side),
             (search, Refusal::BufferBelowFilling, no_room),
             (answers.line, Refusal::LineNumber, input.line > clauses),
+            (answers.file, Refusal::BufferBelowLine, below_file),
             (reply, Refusal::BufferBelowFilling, no_room),
             (reply, Refusal::ReplySize, !no_room && too_long),
         ] {
@@ -130,14 +133,12 @@ impl Turn<'_> {
         }
     }
 
-    /// Any line up to the last is there and no later one; of a small file all lines are within the
-    /// allowance.
+    /// Any line up to the last is there and no later one.
     pub fn lines(&mut self, counts: &[u64]) {
         let sheet = &self.input.sheet[..];
-        let [clauses, allowance] = [counts[1], counts[2]];
+        let clauses = counts[1];
         let any = self.random.bits() % (clauses + 1);
-        let line = self.calls.line(sheet, any, LONGEST_LINE).status;
-        self.require(line > 0, "a line that is counted is refused", line, line);
+        self.line(any);
         if self.random.chance(LAST_LINE_PERCENT) {
             let last = self.calls.line(sheet, clauses, LONGEST_LINE).status;
             let next = self.calls.line(sheet, clauses + 1, LONGEST_LINE).status;
@@ -149,20 +150,68 @@ impl Turn<'_> {
                 next,
             );
         }
-        if clauses <= MOST_CLAUSES && self.random.chance(ALL_LINES_PERCENT) {
-            let mut size = 0;
-            for number in 0..=clauses {
-                let line = self.calls.line(sheet, number, LONGEST_LINE).status;
-                self.require(line > 0, "a line that is counted is refused", line, line);
-                size += line;
-            }
-            let allowed = allowance as i64;
-            self.require(
-                size <= allowed,
-                "the file is above its allowance",
-                size,
-                allowed,
-            );
+    }
+
+    /// A line that is counted.
+    fn line(&mut self, number: u64) -> Vec<u8> {
+        let sheet = &self.input.sheet[..];
+        let mut got = self.calls.line(sheet, number, LONGEST_LINE);
+        let status = got.status;
+        self.require(
+            status > 0,
+            "a line that is counted is refused",
+            status,
+            status,
+        );
+        got.lent.truncate(status as usize);
+        got.lent
+    }
+
+    /// Now and then, the whole file: as many bytes as are counted are long enough for it, and one less
+    /// is not. Its lines are those that are asked for one by one; of a small file all, else some.
+    pub fn files(&mut self, counts: &[u64]) {
+        let (clauses, bytes) = (counts[1], counts[2] as usize);
+        let is_small = bytes <= SMALL_FILE;
+        let percent = if is_small {
+            SMALL_FILE_PERCENT
+        } else {
+            LARGE_FILE_PERCENT
+        };
+        if !self.random.chance(percent) {
+            return;
         }
+        let file = self.file(bytes);
+        let lines: Vec<&[u8]> = file.split_inclusive(|&byte| byte == b'\n').collect();
+        let (listed, due) = (lines.len() as i64, clauses as i64 + 1);
+        let reason = "the file has not as many lines as are counted";
+        self.require(listed == due, reason, listed, due);
+        let numbers: Vec<u64> = if is_small {
+            (0..=clauses).collect()
+        } else {
+            let any = self.random.bits() % (clauses + 1);
+            vec![0, any, clauses]
+        };
+        for number in numbers {
+            let same = self.line(number) == lines[number as usize];
+            let reason = "the file has another line than the one that is asked for";
+            self.require(same, reason, number as i64, listed);
+        }
+    }
+
+    /// The file, of so many bytes.
+    fn file(&mut self, bytes: usize) -> Vec<u8> {
+        let reason = "a buffer is too short for a file that it holds, or the other way round";
+        let sheet = &self.input.sheet[..];
+        let due = bytes as i64;
+        let short = self.calls.file(sheet, bytes - 1).status;
+        self.require(short == TOO_SHORT_FOR_LINE, reason, due, short);
+        let just = self.calls.file(sheet, bytes);
+        self.require(just.status == due, reason, due, just.status);
+        let more = self.random.within(1, 40);
+        let longer = self.calls.file(sheet, bytes + more);
+        let same = longer.status == due && longer.lent[..bytes] == just.lent[..];
+        let reason = "the file is another one in a longer buffer";
+        self.require(same, reason, due, longer.status);
+        just.lent
     }
 }

@@ -6,8 +6,11 @@ use crate::writing;
 use std::ops::RangeInclusive;
 
 /// The shortest line is a clause of one literal of one digit, as in `3 0`.
-const SHORTEST_LINE: i64 = 4;
+pub const SHORTEST_LINE: i64 = 4;
 pub const LONGEST_LINE: usize = writing::ROOMY;
+/// The smallest file is `p cnf 1 1` and `1 0`. No file has more lines than that of the most clauses.
+const SMALLEST_FILE: i64 = 14;
+const MOST_LINES: usize = 45_823;
 pub const LONGEST_TEXT: usize = 24;
 /// The refusals of a sheet, which every call that is given one has.
 const OF_SHEET: RangeInclusive<i64> = 1..=15;
@@ -31,12 +34,13 @@ pub enum Call {
     Search,
     Count,
     Line,
+    File,
     Reply,
     Book,
 }
 
 /// All calls, in the order of `Call`.
-static LISTED: [Listed; 8] = [
+static LISTED: [Listed; 9] = [
     Listed {
         name: "tpl_read",
         answers: 0..=0,
@@ -88,6 +92,13 @@ static LISTED: [Listed; 8] = [
         kinds: &["4 to 9", "10 to 24", "25 to 80"],
     },
     Listed {
+        name: "tpl_file",
+        answers: SMALLEST_FILE..=(MOST_LINES * LONGEST_LINE) as i64,
+        refusals: &[OF_SHEET, 29..=29],
+        kind: file_kind,
+        kinds: &FILE_KINDS,
+    },
+    Listed {
         name: "tpl_reply",
         answers: 0..=0,
         refusals: &[OF_SHEET, 27..=27, 30..=39],
@@ -115,10 +126,24 @@ pub fn book_kind(pairs: i64) -> &'static str {
     }
 }
 
-/// What an input that leads to this status is kept for. Of books all lists with some pairs are one.
+/// How many bytes a file has.
+const FILE_KINDS: [&str; 3] = ["14 to 99", "100 to 9,999", "10,000 and more"];
+
+/// A word for a file's size.
+fn file_kind(bytes: i64) -> &'static str {
+    match bytes {
+        0..=99 => FILE_KINDS[0],
+        100..=9999 => FILE_KINDS[1],
+        _ => FILE_KINDS[2],
+    }
+}
+
+/// What an input that leads to this status is kept for. Of books all lists with some pairs are one, and
+/// so are all files.
 pub fn kept_for(call: Call, status: i64) -> i64 {
     match (call, status) {
         (Call::Book, 1..) if book_kind(status) == BOOK_KINDS[1] => 1,
+        (Call::File, 1..) => 1,
         _ => status,
     }
 }

@@ -13,7 +13,7 @@
 //!
 //! Two further words test no library. Of the sheet on standard input `clauses` prints the clause file
 //! from the plain writer, and `report` what the search program is to print, with the clash of the plain
-//! search.
+//! search. And `size` prints how many bytes the library counts in that sheet's clause file.
 //!
 //! It runs in the repository's folder.
 
@@ -47,6 +47,7 @@ mod order;
 mod orders;
 mod paired;
 mod planted;
+mod powers;
 mod printed;
 mod question;
 mod random;
@@ -103,6 +104,7 @@ fn main() -> io::Result<()> {
         }
         Some("clauses") => writer::print(&input()?)?,
         Some("report") => print!("{}", printed::report(&input()?)),
+        Some("size") => println!("{}", size(&input()?)),
         Some(word) => panic!("no such word: {word}"),
     }
     Ok(())
@@ -126,6 +128,15 @@ fn input() -> io::Result<Vec<u8>> {
     Ok(bytes)
 }
 
+/// The bytes that `tpl_count` counts, or the refusal as a program prints it.
+fn size(sheet: &[u8]) -> String {
+    let counted = engine::count(sheet);
+    match counted.status {
+        0 => counted.lent[2].to_string(),
+        status => format!("refused {}", -status),
+    }
+}
+
 fn test_all() {
     let mut test = test::Test::new();
     reading::run(&mut test);
@@ -134,6 +145,7 @@ fn test_all() {
     checking::run(&mut test);
     brute::run(&mut test.random);
     writing::run(&mut test);
+    powers::run(&mut test);
     ticking::run(&mut test.random);
     lists::run(&mut test);
     test.finish();

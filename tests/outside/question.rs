@@ -108,7 +108,7 @@ fn agrees(pair: &Pair, filling: &Filling) -> bool {
     speller::text(&pair.left, filling) == speller::text(&pair.right, filling)
 }
 
-/// All lines that the library writes for a sheet.
+/// The file that the library writes for a sheet, which is its lines one after the other.
 pub fn clauses(sheet: &[u8]) -> Vec<u8> {
     let counted = engine::count(sheet);
     require(
@@ -116,8 +116,15 @@ pub fn clauses(sheet: &[u8]) -> Vec<u8> {
         "the library does not count the clauses",
         &[("sheet", &Hex(sheet)), ("counted", &counted)],
     );
-    let count = counted.lent[1];
-    (0..=count).flat_map(|number| line(sheet, number)).collect()
+    let [count, size] = [counted.lent[1], counted.lent[2]];
+    let file = engine::file(sheet, size as usize);
+    let lines: Vec<u8> = (0..=count).flat_map(|number| line(sheet, number)).collect();
+    require(
+        file.status == size as i64 && file.lent == lines && file.rest_unchanged,
+        "the library does not write the file, or not as its lines",
+        &[("sheet", &Hex(sheet)), ("size", &size), ("file", &file)],
+    );
+    file.lent
 }
 
 fn line(sheet: &[u8], number: u64) -> Vec<u8> {

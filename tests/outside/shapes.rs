@@ -10,7 +10,7 @@ pub struct Shape(&'static str, fn(&Sheet) -> bool);
 pub type Shapes = [&'static [Shape]];
 
 /// What may be special about a sheet of any size, about a small one, and about a large one.
-pub const ALL: &Shapes = &[&COMMON, &OF_ANY_SIZE];
+pub const ALL: &Shapes = &[&COMMON, &OF_ANY_SIZE, &LARGE];
 pub const OF_SMALL: &Shapes = &[&COMMON, &SMALL, &SHARED];
 pub const OF_LARGE: &Shapes = &[&LARGE, &SHARED];
 

@@ -35,6 +35,7 @@ pub struct Answers {
     pub search: Outcome<u8>,
     pub count: Outcome<u64>,
     pub line: i64,
+    pub file: i64,
     pub reply: Outcome<u8>,
     pub book: Outcome<u8>,
 }
@@ -51,6 +52,7 @@ impl Turn<'_> {
             self.beyond(&answers);
             self.buffers(&answers);
             self.lines(&answers.count.lent);
+            self.files(&answers.count.lent);
         }
         self.book(&answers.book);
         self.calls.reached.clear();
@@ -67,6 +69,7 @@ impl Turn<'_> {
             search: self.calls.search(sheet, input.room),
             count: self.calls.count(sheet),
             line: self.calls.line(sheet, input.line, input.room).status,
+            file: self.calls.file(sheet, input.room).status,
             reply: self.calls.reply(sheet, &input.reply, input.room),
             book: self.calls.book(&input.book, input.room),
         }
@@ -86,6 +89,7 @@ impl Turn<'_> {
             answers.search.status,
             answers.count.status,
             answers.line,
+            answers.file,
             answers.reply.status,
         ] {
             let fits = if read < 0 {

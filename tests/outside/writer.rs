@@ -282,6 +282,22 @@ impl Clauses for Writer {
     }
 }
 
+/// Only counts clauses.
+struct Counted(usize);
+
+impl Clauses for Counted {
+    fn clause(&mut self, _: &'static str, literals: &[Literal]) {
+        self.0 += usize::from(!left_out(literals));
+    }
+}
+
+/// How many clauses an accepted sheet has.
+pub fn clause_count(sheet: &Sheet) -> usize {
+    let mut counted = Counted(0);
+    counted.sheet(sheet);
+    counted.0
+}
+
 /// Is a clause left out, since a literal is always true?
 pub fn left_out(literals: &[Literal]) -> bool {
     literals.iter().any(|literal| matches!(literal, Always))

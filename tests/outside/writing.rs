@@ -70,7 +70,7 @@ fn known_file(test: &mut Test) {
 }
 
 /// The file of a sheet that is known to be accepted.
-fn accepted(written: &Written) -> &File {
+pub fn accepted(written: &Written) -> &File {
     written.file.as_ref().ok().expect("an accepted sheet")
 }
 
