@@ -31,48 +31,48 @@ const UP_TO_10000: &[usize] = &[
     9, 10, 11, 99, 100, 101, 999, 1000, 1001, 9999, 10_000, 10_001,
 ];
 
-/// What is wanted, and at which numbers.
+/// What is wanted, and for which numbers.
 type Numbers = (&'static str, &'static [usize]);
 
-/// What may lie between a variable and the next.
+/// Where the number of a variable may stand: at the end of something, or inside it.
 const BORDERS: [Numbers; 12] = [
-    ("nothing, within a place", UP_TO_100),
-    ("the end of a place", PRODUCTS),
-    ("the end of a field", PRODUCTS),
-    ("the end of K", PRODUCTS),
-    ("nothing, within a row of locations", UP_TO_1000),
-    ("the end of a row", UP_TO_1000),
-    ("the end of a pair", UP_TO_1000),
-    ("the end of S, before T", UP_TO_1000),
-    ("nothing, within the sums of some fields", UP_TO_1000),
-    ("the end of the sums of some fields", UP_TO_1000),
-    ("the end of a rule", UP_TO_1000),
-    ("the end of all variables", UP_TO_1000),
+    ("inside a place", UP_TO_100),
+    ("at the end of a place", PRODUCTS),
+    ("at the end of a field", PRODUCTS),
+    ("at the end of K", PRODUCTS),
+    ("inside a row of locations", UP_TO_1000),
+    ("at the end of a row", UP_TO_1000),
+    ("at the end of a pair", UP_TO_1000),
+    ("at the end of S, before T", UP_TO_1000),
+    ("inside the sums of some fields", UP_TO_1000),
+    ("at the end of the sums of some fields", UP_TO_1000),
+    ("at the end of a rule", UP_TO_1000),
+    ("at the end of all variables", UP_TO_1000),
 ];
-const CLAUSES: [Numbers; 1] = [("the end of all clauses", UP_TO_10000)];
+const CLAUSES: [Numbers; 1] = [("at the end of all clauses", UP_TO_10000)];
 
-/// What lies between a variable and the next.
+/// Where a variable stands, by the next one.
 fn border(last: Variable, next: Option<Variable>) -> &'static str {
     match (last, next) {
-        (_, None) => "the end of all variables",
-        (K(f, ..), Some(K(g, ..))) if f != g => "the end of a field",
-        (K(_, c, _), Some(K(_, d, _))) if c != d => "the end of a place",
-        (K(..), Some(K(..))) => "nothing, within a place",
-        (K(..), Some(_)) => "the end of K",
-        (S(p, ..), Some(S(q, ..))) if p != q => "the end of a pair",
-        (S(_, i, _), Some(S(_, j, _))) if i != j => "the end of a row",
-        (S(..), Some(S(..))) => "nothing, within a row of locations",
-        (S(..), Some(_)) => "the end of S, before T",
-        (T(r, ..), Some(T(s, ..))) if r != s => "the end of a rule",
-        (T(_, k, _), Some(T(_, l, _))) if k != l => "the end of the sums of some fields",
-        (T(..), Some(_)) => "nothing, within the sums of some fields",
+        (_, None) => "at the end of all variables",
+        (K(f, ..), Some(K(g, ..))) if f != g => "at the end of a field",
+        (K(_, c, _), Some(K(_, d, _))) if c != d => "at the end of a place",
+        (K(..), Some(K(..))) => "inside a place",
+        (K(..), Some(_)) => "at the end of K",
+        (S(p, ..), Some(S(q, ..))) if p != q => "at the end of a pair",
+        (S(_, i, _), Some(S(_, j, _))) if i != j => "at the end of a row",
+        (S(..), Some(S(..))) => "inside a row of locations",
+        (S(..), Some(_)) => "at the end of S, before T",
+        (T(r, ..), Some(T(s, ..))) if r != s => "at the end of a rule",
+        (T(_, k, _), Some(T(_, l, _))) if k != l => "at the end of the sums of some fields",
+        (T(..), Some(_)) => "inside the sums of some fields",
     }
 }
 
-/// What is met at a number.
+/// What is met, and for which number.
 type Met = (&'static str, usize);
 
-/// What a sheet has after each variable whose number is wanted.
+/// Where each variable of a sheet stands whose number is wanted.
 fn borders(sheet: &Sheet) -> Vec<Met> {
     let variables = writer::variables(sheet);
     let at = |&number: &usize| {
@@ -119,7 +119,7 @@ impl Wanted {
         for &(name, numbers) in all {
             let times = |&number: &usize| format!("{number} {}", self.met[&(name, number)]);
             let times: Vec<String> = numbers.iter().map(times).collect();
-            println!("outside: sheets with {name} at: {}", times.join(", "));
+            println!("outside: sheets with a number {name}: {}", times.join(", "));
         }
         require(
             !self.is_lacking(),
@@ -129,7 +129,7 @@ impl Wanted {
     }
 }
 
-/// Sheets that have what is wanted at a number, until each was met often enough.
+/// Sheets in which a variable stands where one of its number is wanted, until each was met often enough.
 fn variables(test: &mut Test) {
     let mut wanted = Wanted::new(&BORDERS);
     for _ in 0..MOST_TRIED {
