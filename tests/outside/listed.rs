@@ -8,9 +8,10 @@ use std::ops::RangeInclusive;
 /// The shortest line is a clause of one literal of one digit, as in `3 0`.
 pub const SHORTEST_LINE: i64 = 4;
 pub const LONGEST_LINE: usize = writing::ROOMY;
-/// The smallest file is `p cnf 1 1` and `1 0`. No file has more lines than that of the most clauses.
+/// The smallest file is `p cnf 1 1` and `1 0`. That of the most clauses has 920,561 bytes, and none has a
+/// million.
 const SMALLEST_FILE: i64 = 14;
-const MOST_LINES: usize = 45_823;
+const LARGEST_FILE: i64 = 999_999;
 pub const LONGEST_TEXT: usize = 24;
 /// The refusals of a sheet, which every call that is given one has.
 const OF_SHEET: RangeInclusive<i64> = 1..=15;
@@ -93,7 +94,7 @@ static LISTED: [Listed; 9] = [
     },
     Listed {
         name: "tpl_file",
-        answers: SMALLEST_FILE..=(MOST_LINES * LONGEST_LINE) as i64,
+        answers: SMALLEST_FILE..=LARGEST_FILE,
         refusals: &[OF_SHEET, 29..=29],
         kind: file_kind,
         kinds: &FILE_KINDS,
