@@ -42,7 +42,7 @@ enum-told-3 c = search needs
 constraint-size-requires : tie.Need-constraint-size-requires
 constraint-size-requires c κs =
     let start = c .before .before .before in
-    (start .pre .0, inside start _ (c .enum-told3 .given .1))
+    (start .pre .0, omega (arith, inside start _ (c .enum-told3 .given .1)))
 
 returns : tie.Need-returns
 returns c = (measured (c .before .before .before .before) _ (c .before .enum-told .given .1) (c .field-size .result) (c .field-size .ensures .0), c .field-size .ensures .1)
