@@ -73,11 +73,12 @@ fn ends(same_clauses: bool, same_bytes: bool) -> [&'static str; 2] {
 /// How many bytes the clause file has, by writing its lines, each into the same room.
 fn written(sheet: &Sheet, clauses: u64) -> u64 {
     let mut line = [0; LINE_MOST];
-    let length = |number| calls::line(sheet.bytes(), number, &mut line);
-    let lengths = (0..=clauses).map(length);
-    lengths
-        .map(|length| length.expect("there is this line, and room for it") as u64)
-        .sum()
+    let mut bytes = 0;
+    for number in 0..=clauses {
+        let length = calls::line(sheet.bytes(), number, &mut line);
+        bytes += length.expect("there is this line, and room for it") as u64;
+    }
+    bytes
 }
 
 /// The rows of a sheet. In the last are C and the file's bytes, as they are found here and as the engine counts them.
