@@ -39,11 +39,23 @@ column-number : (s : Sheet) (p i j : ℕ) → number s (S p i j) ≡ number s (S
 unfolding number
 column-number s p i j = omega arith
 
-pub row-number : (s : Sheet) (p i here n : ℕ) → here ≡ 2 * number s (S p 0 0) → n ≡ suc (length (rightCells s p)) → here + i * (2 * n) ≡ 2 * number s (S p i 0)
+row-number : (s : Sheet) (p i here n : ℕ) → here ≡ 2 * number s (S p 0 0) → n ≡ suc (length (rightCells s p)) → here + i * (2 * n) ≡ 2 * number s (S p i 0)
 row-number s p i here n e en =
     let w : ℕ = suc (length (rightCells s p)) in
     let twice : i * (2 * n) ≡ 2 * (i * w) = ap (λ k. i * (2 * k)) en ∙ mul-comm i (2 * w) ∙ mul-assoc 2 w i ∙ ap (λ k. 2 * k) (mul-comm w i) in
     omega (arith, first-number s p i)
+
+-- What is known of an equation before its rows are gone through: the letters, the last row, how many locations a row has, the code of the first location, and the
+-- bytes and the codes of the two sides.
+pub record Surveyed (s : Sheet) (p l m n first : ℕ) (left right xs ys : List ℕ) : Type 0 where
+  pub letters-are : l ≡ blank s
+  pub rows-are : m ≡ length (leftCells s p)
+  pub row-is : n ≡ suc (length (rightCells s p))
+  pub first-is : first ≡ 2 * number s (S p 0 0)
+  pub left-bytes : left ≡ sideBytes (leftCells s p)
+  pub right-bytes : right ≡ sideBytes (rightCells s p)
+  pub left-codes : xs ≡ map (λ i. cellCode s (leftCells s p) i 0 0) (upTo 25)
+  pub right-codes : ys ≡ map (λ i. cellCode s (rightCells s p) i 0 0) (upTo 25)
 
 module _ (s : Sheet) (ok : InRange s) (p : ℕ) (hp : p < length (s .equations)) where
   place-few : (u : Cell) → CellIn s u → placeCode s u 0 0 ≤ mostCode
@@ -62,12 +74,41 @@ module _ (s : Sheet) (ok : InRange s) (p : ℕ) (hp : p < length (s .equations))
   pub location-few : (i : ℕ) → i ≤ length (leftCells s p) → 2 * number s (S p i 0) ≤ mostCode
   location-few i h = omega (arith, number-small s (S p i 0) (hp, h, omega arith), variables-small s ok)
 
-  module _ (i : ℕ) (hi : i ≤ length (leftCells s p)) (l n here : ℕ) (left xs right ys : List ℕ)
-      (el : l ≡ blank s) (en : n ≡ suc (length (rightCells s p))) (eh : here ≡ 2 * number s (S p i 0))
-      (is-left : left ≡ sideBytes (leftCells s p)) (is-right : right ≡ sideBytes (rightCells s p))
-      (are-left : xs ≡ map (λ i. cellCode s (leftCells s p) i 0 0) (upTo 25)) (are-right : ys ≡ map (λ i. cellCode s (rightCells s p) i 0 0) (upTo 25)) where
+  -- Row i, from what is known of the equation.
+  module _ (l m n first : ℕ) (left right xs ys : List ℕ) (known : Surveyed s p l m n first left right xs ys) (i : ℕ) (within : i ≤ m) where
+    el : l ≡ blank s
+    el = known .letters-are
+
+    en : n ≡ suc (length (rightCells s p))
+    en = known .row-is
+
+    is-left : left ≡ sideBytes (leftCells s p)
+    is-left = known .left-bytes
+
+    is-right : right ≡ sideBytes (rightCells s p)
+    is-right = known .right-bytes
+
+    are-left : xs ≡ map (λ i. cellCode s (leftCells s p) i 0 0) (upTo 25)
+    are-left = known .left-codes
+
+    are-right : ys ≡ map (λ i. cellCode s (rightCells s p) i 0 0) (upTo 25)
+    are-right = known .right-codes
+
+    hi : i ≤ length (leftCells s p)
+    hi = omega (arith, known .rows-are)
+
+    -- the code of its first location
+    abbrev here : ℕ
+    here = first + i * (2 * n)
+
+    eh : here ≡ 2 * number s (S p i 0)
+    eh = row-number s p i first n (known .first-is) en
+
+    pub row-few : here ≤ mostCode
+    row-few = omega (arith, eh, location-few i hi)
+
     few-left : i ≤ 24
-    few-left = omega (arith, cells-small s ok p hp .0)
+    few-left = omega (arith, cells-small s ok p hp .0, hi)
 
     few-right : (j : ℕ) → j < n → j ≤ 24
     few-right j h = omega (arith, cells-small s ok p hp .1)
@@ -89,7 +130,7 @@ module _ (s : Sheet) (ok : InRange s) (p : ℕ) (hp : p < length (s .equations))
         → crossLines l (2 * n) (here + 2 * j) (sideOf (getD left i 0)) (getD xs i 0) (sideOf (getD right j 0)) (getD ys j 0) ≡ locationLines s p i j
     unfolding locationLines
     one-location j h =
-        let at-here : here + 2 * j ≡ 2 * number s (S p i j) = omega (arith, column-number s p i j) in
+        let at-here : here + 2 * j ≡ 2 * number s (S p i j) = omega (arith, eh, column-number s p i j) in
         rw (left-side, right-side j h, at-code 0 xs are-left i few-left, at-code 1 ys are-right j (few-right j h), el)
         (sym (cross-is s p i j (here + 2 * j) (2 * n) at-here (ap (λ k. 2 * k) en) (side (leftCells s p) i) (side (rightCells s p) j) refl refl))
 
@@ -103,7 +144,7 @@ module _ (s : Sheet) (ok : InRange s) (p : ℕ) (hp : p < length (s .equations))
     row-ready = record {
       letters = omega (arith, letters-few s ok);
       row = omega (arith, cells-small s ok p hp .1);
-      at-here = omega (arith, location-few i hi);
+      at-here = row-few;
       at-left = rw (at-code 0 xs are-left i few-left) (omega (arith, cell-few 0 i));
       at-right = λ j h. rw (at-code 1 ys are-right j (few-right j h)) (omega (arith, cell-few 1 j));
       sides = λ j h. rw (right-side j h, el) (sides-in s (well-formed s ok) p hp i j .1);

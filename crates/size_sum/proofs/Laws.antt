@@ -15,13 +15,13 @@ use Rattle.model.specs.Sheet.{Sheet, Constraint, limit, constraint, coefficient
 use Rattle.model.specs.Range.{InRange}
 use Rattle.formula.specs.Clause.{K, T, Term, yes, no, only, Zero, Add, terms, least, spread, blank, fields}
 use Rattle.formula.specs.Count.{within, rise}
-use Rattle.formula.specs.Numbering.{VariableIn, number}
+use Rattle.formula.specs.Numbering.{number}
 use Rattle.model.proofs.Lists.{never}
 use Rattle.model.proofs.Keeping.{total-both, total-const, total-same, total-swap, length-loop}
 use Rattle.formula.proofs.Integers.{above-least, step, rise-small}
 use Rattle.formula.proofs.Numbering.{number-small}
 use Rattle.formula.proofs.Small.{variables-small}
-use Rattle.dimacs.specs.Codes.{codesLine, codeSize, termCode, mostCode}
+use Rattle.dimacs.specs.Codes.{codeSize, termCode, mostCode}
 use Rattle.dimacs.proofs.Coded.{terms-line}
 use Rattle.dimacs.proofs.Sizes.{line-one, line-four}
 use Rattle.literals.specs.Name.{lineOf}

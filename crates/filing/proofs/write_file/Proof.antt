@@ -1,7 +1,7 @@
 -- `filing::write_file` meets its contract: the refusals in their order, or the file written. Assumes nothing.
 use mathlib.Core.Path.{_≡_, sym, ap, subst, _∙_}
 use mathlib.Core.List.{List, [], _∷_}
-use Prim.Native.Nat.{ℕ, _≤_}
+use Prim.Native.Nat.{ℕ}
 use native.Mathlib.Omega.{arith}
 use lib.ListN.{length, getD}
 use Rattle.model.specs.Sheet.{sheetOf}
@@ -16,8 +16,6 @@ use Rattle.sheet.specs.Answer.{numberOf, answer, admitted}
 use borrow.Author.Needs.{needs}
 use Rattle.filing.proofs.write_file.Statement.{statement}
 use Rattle.filing.proofs.write_file.Tie as tie
-use Rattle.rendering.proofs.put_file.Reads as put-file-reads
-use Rattle.sheet.proofs.read.Reads as read-reads
 
 read-requires : tie.Need-read-requires
 read-requires c κs = search needs

@@ -1,22 +1,20 @@
 -- `locations::put_equation` meets its contract. The loop's invariant: after the first line, the lines of the first i rows have been written.
 -- Assumes nothing.
-use mathlib.Core.Path.{_≡_, refl, ap, subst, _∙_}
+use mathlib.Core.Path.{refl, ap, subst, _∙_}
 use mathlib.Core.List.{List, [], _∷_}
 use Prim.Native.Nat.{ℕ, suc, _+_, _-_, _*_, _≤_}
 use native.Mathlib.Omega.{arith}
-use lib.ListN.{length, getD}
+use lib.ListN.{length}
 use Rattle.model.specs.Lists.{each, upTo, Puts}
 use Rattle.model.specs.Sheet.{Sheet, sheetOf}
-use Rattle.formula.specs.Clause.{S, Start, leftCells, rightCells}
-use Rattle.formula.specs.Numbering.{number}
+use Rattle.formula.specs.Clause.{Start, leftCells}
 use Rattle.model.proofs.Seams.{Written}
 use Rattle.model.proofs.Pieces.{loop-none, loop-room, loop-next, loop-done}
 use Rattle.model.proofs.Writing.{Writing, joined, begin, fits, next, ends}
 use Rattle.literals.specs.Name.{lineOf}
 use Rattle.locations.specs.Lines.{rowLines, equationLines}
 use Rattle.dimacs.specs.Codes.{mostCode}
-use Rattle.locations.specs.Codes.{rowOf, Rowed}
-use Rattle.locations.proofs.Rows.{row-number, location-few, row-told}
+use Rattle.locations.proofs.Rows.{Surveyed, row-few, row-told}
 use Rattle.locations.proofs.put_equation.Statement.{statement}
 use Rattle.locations.proofs.put_equation.Tie as tie
 
@@ -107,6 +105,21 @@ rows c = next (begun (start-of (known c))) (c .put-clause .ensures) (c .put-clau
 loop-holds : tie.Need-loop-holds Inv-loop μ-loop
 loop-holds c = (omega arith, loop-none (lines (start-of (known (c .before .before)))))
 
+-- what is known of the equation before its rows
+surveyed : (facts : tie.After-location-code Inv-loop μ-loop)
+    → Surveyed (s (start-of facts)) (start-of facts .args .p) (widths-of facts .before .before .letters .result) (widths-of facts .before .width .result) (widths-of facts .width2 .result + 1) (facts .location-code .result)
+    (facts .before .before .before .before .side .result) (facts .before .before .before .side2 .result) (facts .before .before .cell-codes .result) (facts .before .cell-codes2 .result)
+surveyed facts = record {
+  letters-are = widths-of facts .before .before .letters .ensures;
+  rows-are = widths-of facts .before .width .ensures .0;
+  row-is = omega (arith, widths-of facts .width2 .ensures .0);
+  first-is = omega (arith, facts .location-code .ensures);
+  left-bytes = facts .before .before .before .before .side .ensures;
+  right-bytes = facts .before .before .before .side2 .ensures;
+  left-codes = facts .before .before .cell-codes .ensures;
+  right-codes = facts .before .cell-codes2 .ensures;
+}
+
 -- a turn: the row at hand, as the machine has it
 module _ (c : tie.In-loop Inv-loop μ-loop) where
   abbrev first : tie.After-put-clause Inv-loop μ-loop
@@ -121,46 +134,17 @@ module _ (c : tie.In-loop Inv-loop μ-loop) where
   abbrev i : ℕ
   i = c .before .loop .i
 
-  abbrev letters : ℕ
-  letters = widths-of facts .before .before .letters .result
-
-  abbrev width : ℕ
-  width = widths-of facts .width2 .result + 1
-
-  abbrev here : ℕ
-  here = facts .location-code .result + i * (2 * width)
-
-  abbrev left : List ℕ
-  left = facts .before .before .before .before .side .result
-
-  abbrev right : List ℕ
-  right = facts .before .before .before .side2 .result
-
-  abbrev xs : List ℕ
-  xs = facts .before .before .cell-codes .result
-
-  abbrev ys : List ℕ
-  ys = facts .before .cell-codes2 .result
-
   one-of : i ≤ length (leftCells (s start) (start .args .p))
   one-of = omega (arith, c .loop-test .taken, widths-of facts .before .width .ensures .0)
+
+  within : i ≤ widths-of facts .before .width .result
+  within = omega (arith, c .loop-test .taken)
 
   few : i ≤ 24
   few = omega (arith, c .loop-test .taken, widths-of facts .before .width .ensures .1)
 
-  is-width : width ≡ suc (length (rightCells (s start) (start .args .p)))
-  is-width = omega (arith, widths-of facts .width2 .ensures .0)
-
-  here-is : here ≡ 2 * number (s start) (S (start .args .p) i 0)
-  here-is = row-number (s start) (start .args .p) i (facts .location-code .result) width (omega (arith, facts .location-code .ensures)) is-width
-
-  here-few : here ≤ mostCode
-  here-few = omega (arith, here-is, location-few (s start) (start .pre .0 .1) (start .args .p) (start .pre .1) i one-of)
-
-  told : (rowOf letters width here (getD left i 0) (getD xs i 0) right ys ≡ lines start i) × Rowed letters width here (getD xs i 0) right ys
-  told = row-told (s start) (start .pre .0 .1) (start .args .p) (start .pre .1) i one-of letters width here left xs right ys
-      (widths-of facts .before .before .letters .ensures) is-width here-is (facts .before .before .before .before .side .ensures) (facts .before .before .before .side2 .ensures)
-      (facts .before .before .cell-codes .ensures) (facts .before .cell-codes2 .ensures)
+  here-few : facts .location-code .result + i * (2 * (widths-of facts .width2 .result + 1)) ≤ mostCode
+  here-few = row-few (s start) (start .pre .0 .1) (start .args .p) (start .pre .1) _ _ _ _ _ _ _ _ (surveyed facts) i within
 
 mul-put-row : tie.Need-mul-put-row Inv-loop μ-loop
 mul-put-row c = omega (arith, widths-of (facts (c .before)) .width2 .ensures .1)
@@ -185,7 +169,8 @@ put-row-requires c κs =
     let in-loop = c .before in
     let from = start in-loop in
     let free = loop-room (lines from) (count from) (fits (rows (first in-loop))) (in-loop .before .loop .inv .1) (omega (arith, one-of in-loop)) in
-    (told in-loop .1, omega (arith, ap length (told in-loop .0)))
+    let told = row-told (s from) (from .pre .0 .1) (from .args .p) (from .pre .1) _ _ _ _ _ _ _ _ (surveyed (facts in-loop)) (i in-loop) (within in-loop) in
+    (told .1, omega (arith, ap length (told .0)))
 
 add-i : tie.Need-add-i Inv-loop μ-loop
 add-i c = omega (arith, few (c .before .before .before .before))
@@ -199,7 +184,8 @@ loop-again c =
     let in-loop = c .before .before .before .before in
     let at-loop = in-loop .before .loop in
     let from = start in-loop in
-    let piece = subst (λ w. Puts (at-loop .buf) (at-loop .past) w (at-put-row .last .0) (at-put-row .result)) (told in-loop .0) (at-put-row .ensures) in
+    let told = row-told (s from) (from .pre .0 .1) (from .args .p) (from .pre .1) _ _ _ _ _ _ _ _ (surveyed (facts in-loop)) (i in-loop) (within in-loop) in
+    let piece = subst (λ w. Puts (at-loop .buf) (at-loop .past) w (at-put-row .last .0) (at-put-row .result)) (told .0) (at-put-row .ensures) in
     (omega (arith, in-loop .loop-test .taken), loop-next (lines from) (count from) (fits (rows (first in-loop))) (at-loop .inv .1) (omega (arith, one-of in-loop)) (at-put-row .last .0) (at-put-row .result) piece (at-put-row .kept .0))
 
 same-length : tie.Need-same-length Inv-loop μ-loop

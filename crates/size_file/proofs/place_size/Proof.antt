@@ -1,10 +1,7 @@
 -- `size_file::place_size` meets its contract: three pieces, the last one only before a field's last place. Assumes nothing.
-use mathlib.Core.Path.{_≡_, sym, ap, ap₂, _∙_}
+use mathlib.Core.Path.{_≡_, ap, ap₂, _∙_}
 use Prim.Native.Nat.{ℕ, suc, _+_, _*_, _<_, _≤_}
 use native.Mathlib.Omega.{arith}
-use lib.ListN.{length}
-use borrow.Author.Needs.{needs}
-use Rattle.model.specs.Lists.{total}
 use Rattle.model.specs.Sheet.{Sheet, sheetOf, limit}
 use Rattle.formula.specs.Clause.{K, blank}
 use Rattle.formula.specs.Numbering.{number}

@@ -1,6 +1,5 @@
 -- `size_line::figures` meets its contract. Assumes nothing.
 use mathlib.Core.Path.{sym}
-use Prim.Native.Nat.{_≤_}
 use native.Mathlib.Omega.{arith}
 use Rattle.formula.proofs.Figures.{figures-one}
 use Rattle.size_line.proofs.Laws.{figures-two, figures-three, figures-four, figures-five}

@@ -1,5 +1,4 @@
 -- `size_line::figures_from` meets its contract. Assumes nothing.
-use Prim.Native.Nat.{_≤_}
 use native.Mathlib.Omega.{arith}
 use Rattle.size_line.proofs.Laws.{figures-all}
 use borrow.Author.Needs.{needs}

@@ -1,6 +1,5 @@
 -- `size_line::literal_size` meets its contract. Assumes nothing.
 use mathlib.Core.Path.{sym, ap, _∙_}
-use Prim.Native.Nat.{_≤_}
 use native.Mathlib.Omega.{arith}
 use Rattle.dimacs.specs.Codes.{codeSize}
 use Rattle.dimacs.proofs.Sizes.{no-size, code-size}

@@ -1,5 +1,5 @@
 -- `size_line::literals_size` meets its contract. Assumes nothing.
-use Prim.Native.Nat.{_+_, _*_, _%_, _≤_}
+use Prim.Native.Nat.{_+_, _%_}
 use native.Mathlib.Omega.{arith}
 use Rattle.size_line.proofs.Laws.{literals-all, most}
 use borrow.Author.Needs.{needs}

@@ -1,5 +1,4 @@
 -- `size_line::problem_size` meets its contract. Assumes nothing.
-use Prim.Native.Nat.{_≤_}
 use native.Mathlib.Omega.{arith}
 use Rattle.size_line.proofs.Laws.{problem-length}
 use borrow.Author.Needs.{needs}

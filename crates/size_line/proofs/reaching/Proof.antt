@@ -1,5 +1,4 @@
 -- `size_line::reaching` meets its contract. Assumes nothing.
-use Prim.Native.Nat.{_≤_}
 use native.Mathlib.Omega.{arith}
 use borrow.Author.Needs.{needs}
 use Rattle.size_line.proofs.Laws.{reached-is}

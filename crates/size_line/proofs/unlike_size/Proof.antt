@@ -1,6 +1,6 @@
 -- `size_line::unlike_size` meets its contract. Assumes nothing.
-use mathlib.Core.Path.{ap, ap₂, sym, _∙_}
-use Prim.Native.Nat.{_+_, _*_, _≤_}
+use mathlib.Core.Path.{ap₂, sym, _∙_}
+use Prim.Native.Nat.{_+_, _*_}
 use native.Mathlib.Omega.{arith}
 use Rattle.size_line.proofs.Laws.{unlike-lines, most}
 use borrow.Author.Needs.{needs}

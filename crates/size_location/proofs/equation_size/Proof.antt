@@ -1,29 +1,19 @@
 -- `size_location::equation_size` meets its contract. The loop's invariant: the sum is that of the first line and the first i rows. Assumes nothing.
-use mathlib.Core.Path.{_≡_, refl, sym, ap, _∙_}
-use mathlib.Core.List.{List}
-use Prim.Native.Nat.{ℕ, suc, _+_, _-_, _*_, _<_, _≤_}
+use mathlib.Core.Path.{_≡_, ap}
+use Prim.Native.Nat.{ℕ, suc, _+_, _-_, _*_, _≤_}
 use native.Mathlib.Omega.{arith}
-use lib.ListN.{length, getD}
+use lib.ListN.{length}
 use Rattle.model.specs.Lists.{each, upTo}
 use Rattle.model.specs.Sheet.{Sheet, sheetOf}
-use Rattle.formula.specs.Clause.{S, leftCells, rightCells}
+use Rattle.formula.specs.Clause.{S, leftCells}
 use Rattle.formula.specs.Numbering.{number}
-use Rattle.formula.specs.Kind.{atField}
-use Rattle.shape.specs.Bytes.{sideOf}
 use Rattle.dimacs.specs.Codes.{codeSize, mostCode}
 use Rattle.locations.specs.Lines.{rowLines}
-use Rattle.locations.specs.Codes.{rowOf, Rowed}
-use Rattle.locations.proofs.Rows.{row-number, location-few, row-told, row-places}
+use Rattle.locations.proofs.Rows.{Surveyed, location-few, row-few, row-told, row-places}
 use Rattle.size_line.proofs.Laws.{lines-none, lines-more}
 use Rattle.size_location.proofs.Laws.{equation-lines}
 use Rattle.size_location.proofs.equation_size.Statement.{statement}
 use Rattle.size_location.proofs.equation_size.Tie as tie
-use Rattle.codes.proofs.location_code.Reads as location-code-reads
-use Rattle.locations.proofs.cell_codes.Reads as cell-codes-reads
-use Rattle.shape.proofs.letters.Reads as letters-reads
-use Rattle.shape.proofs.side.Reads as side-reads
-use Rattle.shape.proofs.width.Reads as width-reads
-use Rattle.size_line.proofs.literal_size.Reads as literal-size-reads
 
 abbrev Inv-loop : tie.InvT-loop
 Inv-loop sheet p l m n left right x y here sum₀ i₀ sum i = (i ≤ m + 1) × (sum ≡ sum₀ + length (each (upTo i) (rowLines (sheetOf sheet) p))) × (sum ≤ 9 + i * 10000)
@@ -46,6 +36,21 @@ first-code c =
     let start = start-of c in
     omega (arith, c .location-code .ensures, location-few (s start) (start .pre .0 .1) (start .args .p) (start .pre .1) 0 (omega arith))
 
+-- what is known of the equation before its rows
+surveyed : (facts : tie.After-location-code Inv-loop μ-loop)
+    → Surveyed (s (start-of facts)) (start-of facts .args .p) (widths-of facts .before .before .letters .result) (widths-of facts .before .width .result) (widths-of facts .width2 .result + 1) (facts .location-code .result)
+    (facts .before .before .before .before .side .result) (facts .before .before .before .side2 .result) (facts .before .before .cell-codes .result) (facts .before .cell-codes2 .result)
+surveyed facts = record {
+  letters-are = widths-of facts .before .before .letters .ensures;
+  rows-are = widths-of facts .before .width .ensures .0;
+  row-is = omega (arith, widths-of facts .width2 .ensures .0);
+  first-is = omega (arith, facts .location-code .ensures);
+  left-bytes = facts .before .before .before .before .side .ensures;
+  right-bytes = facts .before .before .before .side2 .ensures;
+  left-codes = facts .before .before .cell-codes .ensures;
+  right-codes = facts .before .cell-codes2 .ensures;
+}
+
 -- a turn: the row at hand, as the machine has it
 module _ (c : tie.In-loop Inv-loop μ-loop) where
   abbrev facts : tie.After-location-code Inv-loop μ-loop
@@ -57,51 +62,14 @@ module _ (c : tie.In-loop Inv-loop μ-loop) where
   abbrev i : ℕ
   i = c .before .loop .i
 
-  abbrev letters : ℕ
-  letters = widths-of facts .before .before .letters .result
-
-  abbrev width : ℕ
-  width = widths-of facts .width2 .result + 1
-
-  abbrev here : ℕ
-  here = facts .location-code .result + i * (2 * width)
-
-  abbrev left : List ℕ
-  left = facts .before .before .before .before .side .result
-
-  abbrev right : List ℕ
-  right = facts .before .before .before .side2 .result
-
-  abbrev xs : List ℕ
-  xs = facts .before .before .cell-codes .result
-
-  abbrev ys : List ℕ
-  ys = facts .before .cell-codes2 .result
-
-  one-of : i ≤ length (leftCells (s start) (start .args .p))
-  one-of = omega (arith, c .loop-test .taken, widths-of facts .before .width .ensures .0)
+  within : i ≤ widths-of facts .before .width .result
+  within = omega (arith, c .loop-test .taken)
 
   few : i ≤ 24
   few = omega (arith, c .loop-test .taken, widths-of facts .before .width .ensures .1)
 
-  is-width : width ≡ suc (length (rightCells (s start) (start .args .p)))
-  is-width = omega (arith, widths-of facts .width2 .ensures .0)
-
-  here-is : here ≡ 2 * number (s start) (S (start .args .p) i 0)
-  here-is = row-number (s start) (start .args .p) i (facts .location-code .result) width (omega (arith, facts .location-code .ensures)) is-width
-
-  here-few : here ≤ mostCode
-  here-few = omega (arith, here-is, location-few (s start) (start .pre .0 .1) (start .args .p) (start .pre .1) i one-of)
-
-  told : (rowOf letters width here (getD left i 0) (getD xs i 0) right ys ≡ rowLines (s start) (start .args .p) i) × Rowed letters width here (getD xs i 0) right ys
-  told = row-told (s start) (start .pre .0 .1) (start .args .p) (start .pre .1) i one-of letters width here left xs right ys
-      (widths-of facts .before .before .letters .ensures) is-width here-is (facts .before .before .before .before .side .ensures) (facts .before .before .before .side2 .ensures)
-      (facts .before .before .cell-codes .ensures) (facts .before .cell-codes2 .ensures)
-
-  places : (j : ℕ) → j < width → sideOf (getD right j 0) ≡ atField → 0 < getD ys j 0
-  places = row-places (s start) (start .pre .0 .1) (start .args .p) (start .pre .1) i one-of letters width here left xs right ys
-      (widths-of facts .before .before .letters .ensures) is-width here-is (facts .before .before .before .before .side .ensures) (facts .before .before .before .side2 .ensures)
-      (facts .before .before .cell-codes .ensures) (facts .before .cell-codes2 .ensures)
+  here-few : facts .location-code .result + i * (2 * (widths-of facts .width2 .result + 1)) ≤ mostCode
+  here-few = row-few (s start) (start .pre .0 .1) (start .args .p) (start .pre .1) _ _ _ _ _ _ _ _ (surveyed facts) i within
 
 letters-requires : tie.Need-letters-requires Inv-loop μ-loop
 letters-requires c κs = c .before .pre .0
@@ -163,7 +131,10 @@ array-read-row-size-2 : tie.Need-array-read-row-size-2 Inv-loop μ-loop
 array-read-row-size-2 c = omega (arith, few c)
 
 row-size-requires : tie.Need-row-size-requires Inv-loop μ-loop
-row-size-requires c κs = (told c .1, places c)
+row-size-requires c κs =
+    let from = start c in
+    let told = row-told (s from) (from .pre .0 .1) (from .args .p) (from .pre .1) _ _ _ _ _ _ _ _ (surveyed (facts c)) (i c) (within c) in
+    (told .1, row-places (s from) (from .pre .0 .1) (from .args .p) (from .pre .1) _ _ _ _ _ _ _ _ (surveyed (facts c)) (i c) (within c))
 
 add-sum-2 : tie.Need-add-sum-2 Inv-loop μ-loop
 add-sum-2 c = omega (arith, few (c .before), c .before .before .loop .inv .2, c .row-size .ensures .1)
@@ -179,7 +150,8 @@ loop-again c =
     let l = c .before .before .loop in
     let from = start (c .before) in
     let more = lines-more (rowLines (s from) (from .args .p)) (l .i) in
-    let row = ap length (told (c .before) .0) in
+    let told = row-told (s from) (from .pre .0 .1) (from .args .p) (from .pre .1) _ _ _ _ _ _ _ _ (surveyed (facts (c .before))) (i (c .before)) (within (c .before)) in
+    let row = ap length (told .0) in
     (omega (arith, c .before .loop-test .taken), omega (arith, l .inv .1, c .row-size .ensures .0), omega (arith, l .inv .2, c .row-size .ensures .1))
 
 returns : tie.Need-returns Inv-loop μ-loop

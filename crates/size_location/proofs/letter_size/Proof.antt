@@ -1,6 +1,6 @@
 -- `size_location::letter_size` meets its contract, by what stands on the right. Assumes nothing.
-use mathlib.Core.Path.{_≡_, ap, sym, _∙_}
-use Prim.Native.Nat.{_+_, _*_, _-_, _≤_}
+use mathlib.Core.Path.{ap, sym, _∙_}
+use Prim.Native.Nat.{_+_, _*_, _-_}
 use native.Mathlib.Omega.{arith}
 use lib.ListN.{length}
 use Rattle.formula.specs.Kind.{atLetter}
@@ -12,8 +12,6 @@ use Rattle.size_location.proofs.Laws.{letter-same, letter-other, letter
 use borrow.Author.Needs.{needs}
 use Rattle.size_location.proofs.letter_size.Statement.{statement}
 use Rattle.size_location.proofs.letter_size.Tie as tie
-use Rattle.scan.proofs.wide.Reads as wide-reads
-use Rattle.size_line.proofs.literal_size.Reads as literal-size-reads
 
 add-literal-size : tie.Need-add-literal-size
 add-literal-size c = search needs

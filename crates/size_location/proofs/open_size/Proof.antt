@@ -1,6 +1,6 @@
 -- `size_location::open_size` meets its contract, by what stands on the right. Assumes nothing.
 use mathlib.Core.Path.{_≡_, ap, sym, subst, _∙_}
-use Prim.Native.Nat.{_+_, _*_, _-_, _<_, _≤_}
+use Prim.Native.Nat.{_-_, _<_}
 use native.Mathlib.Omega.{arith}
 use lib.ListN.{length}
 use Rattle.shape.proofs.Sides.{says-used, says-letter, says-field}
@@ -11,10 +11,6 @@ use Rattle.size_location.proofs.Laws.{open-used, open-letter, open-fiel
 use borrow.Author.Needs.{needs}
 use Rattle.size_location.proofs.open_size.Statement.{statement}
 use Rattle.size_location.proofs.open_size.Tie as tie
-use Rattle.scan.proofs.wide.Reads as wide-reads
-use Rattle.size_line.proofs.literal_size.Reads as literal-size-reads
-use Rattle.size_line.proofs.matches_size.Reads as matches-size-reads
-use Rattle.size_line.proofs.unlike_size.Reads as unlike-size-reads
 
 -- a letter on the right is one of l
 abbrev start-wide : tie.After-wide → tie.Start

@@ -1,6 +1,6 @@
 -- `size_location::past_size` meets its contract, by what stands on the right. Assumes nothing.
-use mathlib.Core.Path.{_≡_, ap, _∙_}
-use Prim.Native.Nat.{_+_, _*_, _-_, _≤_}
+use mathlib.Core.Path.{ap}
+use Prim.Native.Nat.{_+_, _-_}
 use native.Mathlib.Omega.{arith}
 use lib.ListN.{length}
 use Rattle.shape.proofs.Sides.{says-used, says-letter, says-field}
@@ -10,7 +10,6 @@ use Rattle.size_location.proofs.Laws.{past-field}
 use borrow.Author.Needs.{needs}
 use Rattle.size_location.proofs.past_size.Statement.{statement}
 use Rattle.size_location.proofs.past_size.Tie as tie
-use Rattle.size_line.proofs.literal_size.Reads as literal-size-reads
 
 returns : tie.Need-returns
 returns c =

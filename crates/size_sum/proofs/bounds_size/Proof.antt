@@ -1,8 +1,7 @@
 -- `size_sum::bounds_size` meets its contract. Assumes nothing.
-use mathlib.Core.Path.{_≡_, refl, sym, ap, ap₂, _∙_}
-use Prim.Native.Nat.{ℕ, suc, _+_, _-_, _*_, _<_, _≤_}
+use mathlib.Core.Path.{_≡_, ap, _∙_}
+use Prim.Native.Nat.{ℕ, _+_, _-_, _*_, _≤_}
 use native.Mathlib.Omega.{arith}
-use lib.ListN.{length}
 use Rattle.model.specs.Sheet.{Sheet, Constraint, sheetOf, constraint}
 use Rattle.formula.specs.Clause.{T, least, spread, fields}
 use Rattle.formula.specs.Count.{within}
@@ -14,12 +13,6 @@ use Rattle.size_sum.proofs.Laws.{bound-lines}
 use borrow.Author.Needs.{needs}
 use Rattle.size_sum.proofs.bounds_size.Statement.{statement}
 use Rattle.size_sum.proofs.bounds_size.Tie as tie
-use Rattle.codes.proofs.sum_code.Reads as sum-code-reads
-use Rattle.numbering.proofs.least.Reads as least-reads
-use Rattle.numbering.proofs.spread.Reads as spread-reads
-use Rattle.numbering.proofs.within.Reads as within-reads
-use Rattle.shape.proofs.fields.Reads as fields-reads
-use Rattle.size_line.proofs.literals_size.Reads as literals-size-reads
 
 abbrev s : tie.Start → Sheet
 s start = sheetOf (start .args .sheet .now)

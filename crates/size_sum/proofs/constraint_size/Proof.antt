@@ -1,6 +1,6 @@
 -- `size_sum::constraint_size` meets its contract. Assumes nothing.
 use mathlib.Core.Path.{_≡_, ap}
-use Prim.Native.Nat.{_*_, _≤_}
+use Prim.Native.Nat.{_*_}
 use native.Mathlib.Omega.{arith}
 use lib.IntN.{pos}
 use Rattle.model.specs.Sheet.{sheetOf, constraint}
@@ -14,8 +14,6 @@ use Rattle.size_sum.proofs.Laws.{constraint-lines}
 use borrow.Author.Needs.{needs}
 use Rattle.size_sum.proofs.constraint_size.Statement.{statement}
 use Rattle.size_sum.proofs.constraint_size.Tie as tie
-use Rattle.codes.proofs.sum_code.Reads as sum-code-reads
-use Rattle.size_line.proofs.literal_size.Reads as literal-size-reads
 
 sum-code-requires : tie.Need-sum-code-requires
 sum-code-requires c κs =

@@ -1,18 +1,15 @@
 -- `size_sum::length_size` meets its contract. Assumes nothing.
-use mathlib.Core.Path.{_≡_, refl, sym, ap, ap₂, _∙_}
-use Prim.Native.Nat.{ℕ, suc, _+_, _-_, _*_, _<_, _≤_}
+use mathlib.Core.Path.{_≡_, ap, ap₂, _∙_}
+use Prim.Native.Nat.{suc, _+_, _-_, _*_, _<_, _≤_}
 use native.Mathlib.Omega.{arith}
-use lib.ListN.{length}
-use lib.IntN.{natAbs}
 use mir.Syntax.{w8}
 use mir.Val.{toZ, ofZ}
 use Rattle.model.specs.Lists.{total}
 use Rattle.model.specs.Sheet.{Sheet, sheetOf, constraint, coefficient}
 use Rattle.model.specs.Sheet as model
-use Rattle.formula.specs.Clause.{T, least, spread}
+use Rattle.formula.specs.Clause.{T, least}
 use Rattle.formula.specs.Count.{rise}
-use Rattle.formula.specs.Numbering.{number}
-use Rattle.formula.proofs.Small.{fields-few, limit-small, coefficient-few, spread-small}
+use Rattle.formula.proofs.Small.{fields-few, coefficient-few, spread-small}
 use Rattle.formula.proofs.Numbering.{positive}
 use Rattle.dimacs.specs.Codes.{codeSize, mostCode}
 use Rattle.sums.proofs.Summed.{coefficient-back}
@@ -21,12 +18,6 @@ use Rattle.size_sum.proofs.Laws.{least-few, length-lines, short-few, lo
 use borrow.Author.Needs.{needs}
 use Rattle.size_sum.proofs.length_size.Statement.{statement}
 use Rattle.size_sum.proofs.length_size.Tie as tie
-use Rattle.literals.proofs.longer.Reads as longer-reads
-use Rattle.literals.proofs.shorter.Reads as shorter-reads
-use Rattle.parts.proofs.coefficient.Reads as coefficient-reads
-use Rattle.shape.proofs.limit.Reads as limit-reads
-use Rattle.size_line.proofs.literal_size.Reads as literal-size-reads
-use Rattle.size_line.proofs.literals_size.Reads as literals-size-reads
 
 abbrev s : tie.Start → Sheet
 s start = sheetOf (start .args .sheet .now)

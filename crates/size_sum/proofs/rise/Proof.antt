@@ -10,7 +10,6 @@ use Rattle.size_sum.proofs.Laws.{rise-negative, rise-other, rise-few, p
 use borrow.Author.Needs.{needs}
 use Rattle.size_sum.proofs.rise.Statement.{statement}
 use Rattle.size_sum.proofs.rise.Tie as tie
-use Rattle.numbering.proofs.magnitude.Reads as magnitude-reads
 
 factor : (c : tie.After-magnitude) → c .magnitude .result ≡ natAbs (c .before .args .c)
 factor c = c .magnitude .ensures ∙ ap natAbs (small-back w8 (c .before .args .c) (omega (arith, c .before .pre .0)))

@@ -1,5 +1,5 @@
 -- `size_sum::step_size` meets its contract. The loop's invariant: the sum is that of the lines with lengths below d. Assumes nothing.
-use mathlib.Core.Path.{_≡_, refl, sym, ap, ap₂, _∙_}
+use mathlib.Core.Path.{_≡_, sym, ap, ap₂, _∙_}
 use Prim.Native.Nat.{ℕ, suc, _+_, _-_, _*_, _<_, _≤_}
 use native.Mathlib.Omega.{arith}
 use lib.ListN.{length}
@@ -11,16 +11,11 @@ use Rattle.formula.specs.Clause.{T, Add, least, spread}
 use Rattle.formula.specs.Numbering.{number}
 use Rattle.model.proofs.Keeping.{total-none, total-more}
 use Rattle.formula.proofs.Small.{fields-few}
-use Rattle.dimacs.specs.Codes.{mostCode}
 use Rattle.literals.specs.Name.{lineOf}
 use Rattle.sums.proofs.Summed.{low-in, low-code}
 use Rattle.size_sum.proofs.Laws.{step-lines}
 use Rattle.size_sum.proofs.step_size.Statement.{statement}
 use Rattle.size_sum.proofs.step_size.Tie as tie
-use Rattle.codes.proofs.sum_code.Reads as sum-code-reads
-use Rattle.numbering.proofs.least.Reads as least-reads
-use Rattle.numbering.proofs.spread.Reads as spread-reads
-use Rattle.shape.proofs.limit.Reads as limit-reads
 
 abbrev Inv-loop : tie.InvT-loop
 Inv-loop sheet r k limit here next n sum₀ d₀ sum d = (d ≤ limit + 1) × (sum ≡ total d (λ d. total n (λ m. length (lineOf (sheetOf sheet) (Add r k (least (sheetOf sheet) (constraint (sheetOf sheet) r) k +ℤ pos m) d))))) × (sum ≤ d * 6000)

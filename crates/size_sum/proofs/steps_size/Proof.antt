@@ -11,7 +11,6 @@ use Rattle.sums.specs.Lines.{stepLines}
 use Rattle.size_line.proofs.Laws.{lines-none, lines-more}
 use Rattle.size_sum.proofs.steps_size.Statement.{statement}
 use Rattle.size_sum.proofs.steps_size.Tie as tie
-use Rattle.shape.proofs.fields.Reads as fields-reads
 
 abbrev Inv-loop : tie.InvT-loop
 Inv-loop sheet r fields sum₀ k₀ sum k = (k ≤ fields) × (sum ≡ length (each (upTo k) (stepLines (sheetOf sheet) r))) × (sum ≤ k * 60000)
