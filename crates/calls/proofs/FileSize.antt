@@ -114,6 +114,9 @@ module _ (b : List ℕ) (v c n room : ℕ) (counted : counting b ≡ finished (v
   unfolding counting
   is-accepted = sheet-finished b _ counted
 
+  pub counted-is-printed : n ≡ length (clausesPrinted b)
+  counted-is-printed = omega (arith, counting-exact b counted, file-size (sheetOf b), the-size-of-the-printed-file b is-accepted)
+
   pub enough-as-counted : n ≤ room → filing b room ≡ finished (clausesPrinted b)
   enough-as-counted h = the-printed-file b is-accepted room (omega (arith, counting-exact b counted, file-size (sheetOf b)))
 

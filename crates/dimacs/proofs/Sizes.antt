@@ -1,14 +1,16 @@
 -- How many bytes a literal and a line have, by codes. Assumes nothing.
-use mathlib.Core.Path.{_≡_, refl, ap}
-use mathlib.Core.List.{List, [], _∷_, _++_}
+use mathlib.Core.Path.{_≡_, refl, ap, _∙_}
+use mathlib.Core.List.{List, [], _∷_, _++_, map}
 use Prim.Native.Nat.{ℕ, _+_, _/_, _%_}
 use native.Mathlib.Omega.{arith}
 use lib.Dec.{eqb}
 use lib.ListN.{length, length-append}
 use borrow.Author.Tests.{eqb-true, eqb-false}
-use Rattle.model.specs.Lists.{each}
+use Rattle.model.specs.Lists.{each, upTo, total}
 use Rattle.formula.specs.Dimacs.{decimal}
 use Rattle.model.proofs.Lists.{by-test}
+use Rattle.model.proofs.Keeping.{each-map, length-loop}
+use Rattle.formula.proofs.Lines.{number-length, ended-length}
 use Rattle.dimacs.specs.Codes.{codeBytes, codesLine, codeSize, lineSize}
 use Rattle.dimacs.proofs.Laws.{code-none, code-even, code-odd}
 
@@ -21,14 +23,11 @@ code-size code some = by-test (eqb (code % 2) 0)
     (λ t.
     let e = eqb-true (code % 2) 0 t in
     let a = ap length (code-even code some e) in
-    let b = length-append (decimal (code / 2)) (32 ∷ []) in
-    omega arith)
+    omega (arith, number-length (code / 2)))
     (λ t.
     let a = ap length (code-odd code some (eqb-false (code % 2) 0 t)) in
-    let b = length-append (decimal (code / 2)) (32 ∷ []) in
-    let ne = eqb-false (code % 2) 0 t in
-    let one : code % 2 ≡ 1 = odd code ne in
-    omega arith)
+    let one : code % 2 ≡ 1 = odd code (eqb-false (code % 2) 0 t) in
+    omega (arith, number-length (code / 2)))
   where
     odd : (n : ℕ) → (n % 2 ≡ 0 → ⊥) → n % 2 ≡ 1
     odd n h = omega arith
@@ -41,10 +40,15 @@ line-end = refl
 pub line-literal : (code : ℕ) (codes : List ℕ) → lineSize (code ∷ codes) ≡ codeSize code + lineSize codes
 unfolding codesLine each
 line-literal code codes =
-    let a = length-append (codeBytes code ++ each codes codeBytes) (48 ∷ 10 ∷ []) in
     let b = length-append (codeBytes code) (each codes codeBytes) in
-    let c = length-append (each codes codeBytes) (48 ∷ 10 ∷ []) in
-    omega arith
+    omega (arith, ended-length (codeBytes code ++ each codes codeBytes), ended-length (each codes codeBytes))
+
+-- of codes that are counted from 0 on
+pub line-codes : (g : ℕ → ℕ) (n : ℕ) → lineSize (map g (upTo n)) ≡ total n (λ a. codeSize (g a)) + 2
+unfolding codesLine
+line-codes g n =
+    ended-length (each (map g (upTo n)) codeBytes)
+    ∙ ap (λ z. z + 2) (ap length (each-map g (upTo n) codeBytes) ∙ length-loop (λ a. codeBytes (g a)) n (λ a. codeSize (g a)) (λ a l. refl))
 
 -- lines of one, two, three and four codes
 pub line-one : (a : ℕ) → lineSize (a ∷ []) ≡ codeSize a + 2

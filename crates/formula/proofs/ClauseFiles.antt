@@ -1,5 +1,5 @@
 -- Clause files, computed: of some sheets every clause as numbers, how many variables, clauses and locations of each kind there are, and the file's size; of
--- document 01's sheet P also the file's bytes. The numbers were worked out by another program from document 01 alone. Assumes nothing.
+-- document 01's sheet P also the file's bytes. The numbers were worked out by another program from the documents alone. Assumes nothing.
 use mathlib.Core.Path.{_≡_, refl}
 use mathlib.Core.List.{List, [], _∷_, map}
 use Prim.Native.Nat.{ℕ}
@@ -246,8 +246,8 @@ pub all-sizes : map (λ (c : ClauseFile). fileSize (c .sheet)) clauseFiles ≡ m
 unfolding each from any keep total cells terms leftOut literals least spread sums placeIds locationIds equationIds constraintIds listed ids number clause kVariables sVariables tVariables variables digits decimal problemLine clauseLine line fileSize
 all-sizes = refl
 
--- Sizes of files in which numbers come from one figure to two, and from two to three: 18 variables and 41 clauses, of them one place with the values 9 to 12;
--- 100 variables and as many clauses; 105 variables and 55 clauses, with sums from below 100 to above it.
+-- Sizes of files in which numbers go from one figure to two, and from two to three: of 18 variables and 41 clauses, where one place has the variables 9 to 12;
+-- of 100 variables and as many clauses; of 105 variables and 55 clauses, with sums numbered from below 100 to above it.
 abbrev nine : List Symbol
 nine = letter 0 ∷ letter 0 ∷ letter 0 ∷ letter 0 ∷ letter 0 ∷ letter 0 ∷ letter 0 ∷ letter 0 ∷ letter 0 ∷ []
 

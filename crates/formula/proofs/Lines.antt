@@ -73,11 +73,24 @@ pub numbers-line : (s : Sheet) (n : ℕ) → numbers (line s (suc n)) ≡ clause
 unfolding line clauseLine numbersFrom
 numbers-line s n = literals-read (clause s (idAt s n)) (48 ∷ 10 ∷ [])
 
--- How long lines are.
--- a number and the space after it
+-- How long lines are, for all that bounds or measures them: a number and the space after it; what stands in a line, and its nought and line end; line 0.
+pub number-length : (n : ℕ) → length (decimal n ++ (32 ∷ [])) ≡ length (decimal n) + 1
+number-length n = length-append (decimal n) (32 ∷ [])
+
+pub ended-length : (xs : List ℕ) → length (xs ++ (48 ∷ 10 ∷ [])) ≡ length xs + 2
+ended-length xs = length-append xs (48 ∷ 10 ∷ [])
+
+pub problem-length : (v c : ℕ) → length (problemLine v c) ≡ 6 + length (decimal v) + 1 + length (decimal c) + 1
+unfolding problemLine
+problem-length v c =
+    let a = length-append (decimal v) ((32 ∷ []) ++ (decimal c ++ (10 ∷ []))) in
+    let b = length-append (decimal c) (10 ∷ []) in
+    omega arith
+
+-- No literal is long.
 literal-short : (z : ℤ) → natAbs z ≤ 9999 → length (literalBytes z) ≤ 6
-literal-short (pos n) h = let a = decimal-short-four n h in let b = length-append (decimal n) (32 ∷ []) in omega arith
-literal-short (negsuc n) h = let a = decimal-short-four (suc n) h in let b = length-append (decimal (suc n)) (32 ∷ []) in omega arith
+literal-short (pos n) h = omega (arith, decimal-short-four n h, number-length n)
+literal-short (negsuc n) h = omega (arith, decimal-short-four (suc n) h, number-length (suc n))
 
 module _ (s : Sheet) (ok : InRange s) where
   signed-short : (l : Literal) → LiteralIn s l → length (literalBytes (signedNumber s l)) ≤ 6
@@ -110,8 +123,7 @@ module _ (s : Sheet) (ok : InRange s) where
       let less : length zs ≤ n = omega (arith, literals-few q) in
       let same : k ≤ k = omega arith in
       let most = mul-le-mul less same in
-      let a = length-append (each zs literalBytes) (48 ∷ 10 ∷ []) in
-      omega arith
+      omega (arith, ended-length (each zs literalBytes))
 
   -- of at most four, and of the values of a place, whose numbers are the least
   four : (q : ClauseId) → length (terms s q) ≤ 4 → IdIn s q → length (clauseLine (clause s q)) ≤ 38
@@ -130,7 +142,7 @@ module _ (s : Sheet) (ok : InRange s) where
       let x = value-small s f c a (h, omega arith) in
       let y = k-small s ok in
       let z = decimal-short-three (number s (K f c a)) (omega arith) in
-      let w = length-append (decimal (number s (K f c a))) (32 ∷ []) in
+      let w = number-length (number s (K f c a)) in
       (omega arith, tt))))
 
   clause-short : (q : ClauseId) → IdIn s q → length (clauseLine (clause s q)) ≤ 38
@@ -153,13 +165,7 @@ module _ (s : Sheet) (ok : InRange s) where
   clause-short (Bound r n) h = four (Bound r n) (omega arith) h
 
 pub problem-short : (v c : ℕ) → v ≤ 9999 → c ≤ 99999 → length (problemLine v c) ≤ 17
-unfolding problemLine
-problem-short v c h k =
-    let a = decimal-short-four v h in
-    let b = decimal-short c k in
-    let m = length-append (decimal v) ((32 ∷ []) ++ (decimal c ++ (10 ∷ []))) in
-    let n = length-append (decimal c) (10 ∷ []) in
-    omega arith
+problem-short v c h k = omega (arith, decimal-short-four v h, decimal-short c k, problem-length v c)
 
 -- line 0, by the counts
 pub first-line : (s : Sheet) (v c : ℕ) → v ≡ variableCount s → c ≡ length (ids s) → problemLine v c ≡ line s 0

@@ -1,5 +1,6 @@
 -- How many clauses there are, part by part, and which of a location's clauses are not left out: the forms in which the clauses are
--- counted and found. `Totals.antt` and `Finding.antt` of the proofs show that these are the clauses of `Clause.antt`.
+-- counted and found, and how sums follow on each other (`rise`). `Totals.antt`, `Finding.antt` and `Integers.antt` of the proofs show that these are the
+-- clauses and the sums of `Clause.antt`.
 use mathlib.Core.List.{List, [], _∷_, _++_, map}
 use Prim.Native.Nat.{ℕ, suc, _+_, _-_, _*_, _<_, _≤_}
 use lib.Dec.{ltb, eqb}

@@ -1,4 +1,4 @@
--- The clause file: its lines as bytes, and the numbers that a line's bytes list.
+-- The clause file: its lines as bytes, its size, and the numbers that a line's bytes list.
 use mathlib.Core.Bool.{Bool, false, _||_}
 use mathlib.Core.List.{List, [], _∷_, _++_}
 use Prim.Native.Nat.{ℕ, zero, suc, _+_, _-_, _*_, _/_, _%_}

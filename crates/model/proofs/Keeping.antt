@@ -12,7 +12,7 @@ use lib.ListN.{length, getD, length-append, length-map, List·getD-append}
 use lib.Seq.{getD-append-add}
 use borrow.Author.Tests.{ltb-true, ltb-false, eqb-true, eqb-false}
 use Rattle.model.specs.Lists.{each, from, upTo, all, any, when, keep, total, All}
-use Rattle.model.proofs.Lists.{never, by-test, or-left, or-right, append-in, append-out, map-in, each-in, each-out, each-same, below-out, from-more, all-out, all-in}
+use Rattle.model.proofs.Lists.{never, by-test, or-left, or-right, append-in, append-out, map-in, each-in, each-out, each-same, below-out, from-more, each-none, each-more, all-out, all-in}
 
 -- P of every element of a list of one, of a list that a test may drop, of what a test keeps
 module _ {A : Type 0} (P : A → Type 0) where
@@ -382,6 +382,13 @@ module _ {A : Type 0} (f : ℕ → List A) where
     block-at d i k lt lk =
         let q : 0 + i ≡ i = omega arith in
         rw q at (block-from d 0 n h (λ j l. let z : 0 + j ≡ j = omega arith in rw z (e j l)) i k lt lk)
+
+-- so of none, and of one more
+pub length-none : {A : Type 0} (f : ℕ → List A) → length (each (upTo 0) f) ≡ 0
+length-none f = ap length (each-none f)
+
+pub length-more : {A : Type 0} (f : ℕ → List A) (n : ℕ) → length (each (upTo (n + 1)) f) ≡ length (each (upTo n) f) + length (f n)
+length-more f n = ap length (each-more f n) ∙ length-append (each (upTo n) f) (f n)
 
 -- in a list put together: an element of the first, and one of the second when the first is so long
 pub first-at : {A : Type 0} (d : A) (xs ys : List A) (a n : ℕ) → length xs ≡ a → n < a → getD (xs ++ ys) n d ≡ getD xs n d

@@ -1,7 +1,7 @@
 -- How many bytes the lines of a place have, and the file as line 0 and its sections. Assumes nothing.
-use mathlib.Core.Path.{_≡_, refl, sym, ap, _∙_}
+use mathlib.Core.Path.{_≡_, sym, ap, _∙_}
 use mathlib.Core.Bool.{Bool, true, false}
-use mathlib.Core.List.{List, [], _∷_, _++_, map}
+use mathlib.Core.List.{List, _++_}
 use Prim.Native.Nat.{ℕ, suc, _+_, _*_, _<_, _≤_}
 use native.Mathlib.Omega.{arith}
 use lib.Dec.{ltb}
@@ -14,24 +14,17 @@ use Rattle.formula.specs.Clause.{K, Term, yes, SomeValue, BlankTail, terms, bla
 use Rattle.formula.specs.Count.{ofFields, ofEquations, ofConstraints}
 use Rattle.formula.specs.Numbering.{number, variableCount}
 use Rattle.formula.specs.Dimacs.{problemLine, line, fileSize}
-use Rattle.model.proofs.Keeping.{map-map, map-below, each-map, length-loop}
+use Rattle.model.proofs.Keeping.{map-map, map-below}
 use Rattle.model.proofs.Templates.{well-formed}
 use Rattle.formula.proofs.Lines.{first-line, file-size}
-use Rattle.dimacs.specs.Codes.{codeBytes, codesLine, codeSize, termCode}
+use Rattle.dimacs.specs.Codes.{codesLine, codeSize, termCode}
 use Rattle.dimacs.proofs.Coded.{terms-line}
-use Rattle.dimacs.proofs.Sizes.{line-two}
+use Rattle.dimacs.proofs.Sizes.{line-two, line-codes}
 use Rattle.literals.specs.Name.{lineOf}
 use Rattle.locations.proofs.Located.{value-number}
 use Rattle.rendering.specs.Lines.{placeLines, sectionLines}
 use Rattle.rendering.specs.Codes.{pairLines}
 use Rattle.rendering.proofs.Whole.{place-lines, file-is}
-
--- A line of codes that are counted from 0 on.
-codes-size : (g : ℕ → ℕ) (n : ℕ) → length (codesLine (map g (upTo n))) ≡ total n (λ a. codeSize (g a)) + 2
-unfolding codesLine
-codes-size g n =
-    length-append (each (map g (upTo n)) codeBytes) (48 ∷ 10 ∷ [])
-    ∙ ap (λ z. z + 2) (ap length (each-map g (upTo n) codeBytes) ∙ length-loop (λ a. codeBytes (g a)) n (λ a. codeSize (g a)) (λ a l. refl))
 
 module _ (s : Sheet) (f c : ℕ) where
   -- that a place has a value
@@ -42,7 +35,7 @@ module _ (s : Sheet) (f c : ℕ) where
       let value : ℕ → Term = λ a. yes (K f c a) in
       ap length (sym (terms-line s (SomeValue f c)))
       ∙ ap (λ (codes : List ℕ). length (codesLine codes)) (map-map (termCode s) value (upTo (suc (blank s))) ∙ map-below (λ a. termCode s (value a)) (λ a. first + 2 * a) (suc (blank s)) (λ a _. omega (arith, value-number s f c a)))
-      ∙ codes-size (λ a. first + 2 * a) (suc (blank s))
+      ∙ line-codes (λ a. first + 2 * a) (suc (blank s))
       ∙ ap (λ k. total k (λ a. codeSize (first + 2 * a)) + 2) n
 
   -- that a blank is followed by a blank

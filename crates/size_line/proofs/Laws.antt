@@ -1,16 +1,16 @@
 -- How many figures numbers have, one and several in a row; how many bytes literals in a row have, and lines. Assumes nothing.
 use mathlib.Core.Path.{_≡_, refl, sym, ap, _∙_}
-use mathlib.Core.List.{List, [], _∷_, _++_}
+use mathlib.Core.List.{List}
 use Prim.Native.Nat.{ℕ, zero, suc, _+_, _-_, _*_, _/_, _%_, _<_, _≤_}
-use native.Mathlib.Nat.{mul-le-mul, suc-mul}
+use native.Mathlib.Nat.{mul-le-mul-left, suc-mul}
 use native.Mathlib.Omega.{arith}
 use lib.Dec.{leb, ltb}
-use lib.ListN.{length, length-append}
+use lib.ListN.{length}
 use borrow.Author.Tests.{le-leb, lt-leb, leb-true, leb-false, ltb-true, ltb-false}
-use Rattle.model.specs.Lists.{each, from, upTo, total}
-use Rattle.formula.specs.Dimacs.{decimal, problemLine}
+use Rattle.model.specs.Lists.{each, upTo, total}
+use Rattle.formula.specs.Dimacs.{decimal}
 use Rattle.model.proofs.Lists.{by-test}
-use Rattle.model.proofs.Keeping.{total-both, total-const, total-more, length-loop}
+use Rattle.model.proofs.Keeping.{total-both, total-const, length-loop}
 use Rattle.formula.proofs.Figures.{figures-one, figures-more}
 use Rattle.dimacs.specs.Codes.{codeSize}
 use Rattle.dimacs.proofs.Sizes.{code-size, line-two, line-four}
@@ -30,7 +30,7 @@ figures-four n h l = let a = figures-more n (omega arith) in let b = figures-thr
 pub figures-five : (n : ℕ) → 10000 ≤ n → n < 100000 → length (decimal n) ≡ 5
 figures-five n h l = let a = figures-more n (omega arith) in let b = figures-four (n / 10) (omega arith) (omega arith) in omega arith
 
--- one, and one more for each power of ten that the number comes to
+-- one, and one more for each power of ten that the number reaches
 powers : (n : ℕ) → n < 100000 → length (decimal n) ≡ 1 + reach 10 n + reach 100 n + reach 1000 n + reach 10000 n
 powers n l = by-test (ltb n 10)
     (λ t.
@@ -58,7 +58,7 @@ powers n l = by-test (ltb n 10)
     let i = ltb-false n 10000 w in
     rw (le-leb 10 n h, le-leb 100 n k, le-leb 1000 n j, le-leb 10000 n i) (figures-five n i l)))))
 
--- Numbers in a row: those that come to p are the last ones.
+-- Numbers in a row: those that reach p are the last ones.
 pub reached-is : (p a n : ℕ) → reached p a n ≡ n - (p - a)
 unfolding total
 reached-is p a zero = omega arith
@@ -89,16 +89,6 @@ literals-all first (suc n) h =
     let more = suc-mul n (first % 2 + 1) in
     omega arith
 
--- Lines one after the other: none, and one more.
-pub lines-none : (f : ℕ → List ℕ) → length (each (upTo 0) f) ≡ 0
-unfolding each from
-lines-none f = refl
-
-pub lines-more : (f : ℕ → List ℕ) (n : ℕ) → length (each (upTo (n + 1)) f) ≡ length (each (upTo n) f) + length (f n)
-lines-more f n =
-    let size : ℕ → ℕ = λ k. length (f k) in
-    length-loop f (n + 1) size (λ k l. refl) ∙ total-more n size ∙ ap (λ z. z + length (f n)) (sym (length-loop f n size (λ k l. refl)))
-
 -- Lines of w bytes each, and of line k so many more.
 pub lines-size : (f : ℕ → List ℕ) (n w : ℕ) (g : ℕ → ℕ) → ((k : ℕ) → k < n → length (f k) ≡ w + g k) → length (each (upTo n) f) ≡ n * w + total n g
 lines-size f n w g e = length-loop f n (λ k. w + g k) e ∙ sym (total-both n (λ k. w) g) ∙ ap (λ z. z + total n g) (total-const n w)
@@ -128,12 +118,4 @@ match-lines l here x y =
 
 -- a product is no greater than that of a greater number
 pub most : (n w m : ℕ) → w ≤ m → n * w ≤ n * m
-most n w m h = let same : n ≤ n = omega arith in mul-le-mul same h
-
--- line 0
-pub problem-length : (v c : ℕ) → length (problemLine v c) ≡ 6 + length (decimal v) + 1 + length (decimal c) + 1
-unfolding problemLine
-problem-length v c =
-    let a = length-append (decimal v) ((32 ∷ []) ++ (decimal c ++ (10 ∷ []))) in
-    let b = length-append (decimal c) (10 ∷ []) in
-    omega arith
+most n w m h = mul-le-mul-left n h

@@ -1,4 +1,4 @@
--- How many of some numbers in a row come to a bound; a number has one figure more for each power of ten that it comes to.
+-- How many of some numbers in a row reach a bound; a number has one figure more for each power of ten that it reaches.
 use Prim.Native.Nat.{ℕ, _+_}
 use lib.Dec.{leb}
 use Rattle.model.specs.Lists.{pick, total}

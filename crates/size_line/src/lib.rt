@@ -45,7 +45,7 @@ fn reaching(power: usize, first: usize, n: usize) -> usize
     n - below
 }
 
-// How many figures the n numbers from `first` on have together: one each, and one more for each power of ten that a number comes to.
+// How many figures the n numbers from `first` on have together: one each, and one more for each power of ten that a number reaches.
 fn figures_from(first: usize, n: usize) -> usize
     requires { ⌜ first + n ≤ 100000 ⌝ }
     ensures { λ r. ⌜ (r ≡ total n (λ k. length (decimal (first + k)))) × (r ≤ 5 * n) ⌝ }

@@ -41,7 +41,7 @@ fn past_size(l: usize, here: usize, v: u8, y: usize) -> usize
     c + line + literal_size(y_blank)
 }
 
-// A location with letter a on the left: F, or C where a place is on the right, D, and E where the letters differ.
+// A location with letter a on the left: F, or C where a place is on the right, D, and E but where the same letter is on the right.
 fn letter_size(l: usize, down: usize, here: usize, a: u8, v: u8, y: usize) -> usize
     requires { ⌜ Crossed l down here 0 y × (a < 8) ⌝ }
     ensures { λ r. ⌜ (r ≡ length (letterLines l down here a (sideOf v) y)) × (r ≤ 400) ⌝ }

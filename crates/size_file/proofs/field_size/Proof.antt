@@ -6,7 +6,7 @@ use lib.ListN.{length}
 use Rattle.model.specs.Lists.{each, upTo}
 use Rattle.model.specs.Sheet.{sheetOf, limit}
 use Rattle.rendering.specs.Lines.{placeLines, fieldLines}
-use Rattle.size_line.proofs.Laws.{lines-none, lines-more}
+use Rattle.model.proofs.Keeping.{length-none, length-more}
 use Rattle.size_file.proofs.field_size.Statement.{statement}
 use Rattle.size_file.proofs.field_size.Tie as tie
 
@@ -22,7 +22,7 @@ limit-requires c κs = c .before .pre
 loop-holds : tie.Need-loop-holds Inv-loop μ-loop
 loop-holds c =
     let start = c .before .before in
-    (omega arith, sym (lines-none (placeLines (sheetOf (start .args .sheet .now)) (start .args .f))), omega arith)
+    (omega arith, sym (length-none (placeLines (sheetOf (start .args .sheet .now)) (start .args .f))), omega arith)
 
 place-size-requires : tie.Need-place-size-requires Inv-loop μ-loop
 place-size-requires c κs =
@@ -42,7 +42,7 @@ loop-again : tie.Need-loop-again Inv-loop μ-loop
 loop-again c =
     let l = c .before .before .loop in
     let start = c .before .before .before .before .before in
-    let more = lines-more (placeLines (sheetOf (start .args .sheet .now)) (start .args .f)) (l .c) in
+    let more = length-more (placeLines (sheetOf (start .args .sheet .now)) (start .args .f)) (l .c) in
     (omega (arith, c .before .loop-test .taken), omega (arith, l .inv .1, c .place-size .ensures .0), omega (arith, l .inv .2, c .place-size .ensures .1))
 
 returns : tie.Need-returns Inv-loop μ-loop

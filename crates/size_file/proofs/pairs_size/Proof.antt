@@ -6,7 +6,7 @@ use native.Mathlib.Omega.{arith}
 use lib.ListN.{length}
 use Rattle.model.specs.Lists.{each, upTo}
 use Rattle.rendering.specs.Codes.{pairLines}
-use Rattle.size_line.proofs.Laws.{lines-none, lines-more}
+use Rattle.model.proofs.Keeping.{length-none, length-more}
 use Rattle.size_file.proofs.pairs_size.Statement.{statement}
 use Rattle.size_file.proofs.pairs_size.Tie as tie
 
@@ -20,7 +20,7 @@ abbrev lines : tie.Start Inv-loop μ-loop → ℕ → List ℕ
 lines start = pairLines (start .args .first) (start .args .letters)
 
 loop-holds : tie.Need-loop-holds Inv-loop μ-loop
-loop-holds c = (omega arith, sym (lines-none (lines c)), omega arith)
+loop-holds c = (omega arith, sym (length-none (lines c)), omega arith)
 
 mul-unlike-size : tie.Need-mul-unlike-size Inv-loop μ-loop
 mul-unlike-size c = omega (arith, c .loop-test .taken, c .before .before .pre .1)
@@ -50,7 +50,7 @@ loop-again : tie.Need-loop-again Inv-loop μ-loop
 loop-again c =
     let l = c .before .before .loop in
     let start = c .before .before .before in
-    let more = lines-more (lines start) (l .a) in
+    let more = length-more (lines start) (l .a) in
     (omega (arith, c .before .loop-test .taken), omega (arith, l .inv .1, c .unlike-size .ensures .0), omega (arith, l .inv .2, c .unlike-size .ensures .1, start .pre .1))
 
 returns : tie.Need-returns Inv-loop μ-loop

@@ -8,7 +8,7 @@ use Rattle.model.specs.Sheet.{sheetOf}
 use Rattle.formula.specs.Count.{parts}
 use Rattle.shape.specs.Name.{sectionOf}
 use Rattle.rendering.specs.Lines.{partLines, sectionLines}
-use Rattle.size_line.proofs.Laws.{lines-none, lines-more}
+use Rattle.model.proofs.Keeping.{length-none, length-more}
 use Rattle.size_file.proofs.section_size.Statement.{statement}
 use Rattle.size_file.proofs.section_size.Tie as tie
 
@@ -24,7 +24,7 @@ parts-requires c κs = c .before .pre
 loop-holds : tie.Need-loop-holds Inv-loop μ-loop
 loop-holds c =
     let start = c .before .before in
-    (omega arith, sym (lines-none (partLines (sheetOf (start .args .sheet .now)) (sectionOf (start .args .section)))), omega arith)
+    (omega arith, sym (length-none (partLines (sheetOf (start .args .sheet .now)) (sectionOf (start .args .section)))), omega arith)
 
 part-size-requires : tie.Need-part-size-requires Inv-loop μ-loop
 part-size-requires c κs =
@@ -44,7 +44,7 @@ loop-again : tie.Need-loop-again Inv-loop μ-loop
 loop-again c =
     let l = c .before .before .loop in
     let start = c .before .before .before .before .before in
-    let more = lines-more (partLines (sheetOf (start .args .sheet .now)) (sectionOf (start .args .section))) (l .i) in
+    let more = length-more (partLines (sheetOf (start .args .sheet .now)) (sectionOf (start .args .section))) (l .i) in
     (omega (arith, c .before .loop-test .taken), omega (arith, l .inv .1, c .part-size .ensures .0), omega (arith, l .inv .2, c .part-size .ensures .1))
 
 returns : tie.Need-returns Inv-loop μ-loop

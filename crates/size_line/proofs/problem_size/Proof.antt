@@ -1,6 +1,6 @@
 -- `size_line::problem_size` meets its contract. Assumes nothing.
 use native.Mathlib.Omega.{arith}
-use Rattle.size_line.proofs.Laws.{problem-length}
+use Rattle.formula.proofs.Lines.{problem-length}
 use borrow.Author.Needs.{needs}
 use Rattle.size_line.proofs.problem_size.Statement.{statement}
 use Rattle.size_line.proofs.problem_size.Tie as tie

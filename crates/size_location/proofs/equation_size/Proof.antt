@@ -10,7 +10,7 @@ use Rattle.formula.specs.Numbering.{number}
 use Rattle.dimacs.specs.Codes.{codeSize, mostCode}
 use Rattle.locations.specs.Lines.{rowLines}
 use Rattle.locations.proofs.Rows.{Surveyed, location-few, row-few, row-told, row-places}
-use Rattle.size_line.proofs.Laws.{lines-none, lines-more}
+use Rattle.model.proofs.Keeping.{length-none, length-more}
 use Rattle.size_location.proofs.Laws.{equation-lines}
 use Rattle.size_location.proofs.equation_size.Statement.{statement}
 use Rattle.size_location.proofs.equation_size.Tie as tie
@@ -109,7 +109,7 @@ add-sum c = omega (arith, c .literal-size .ensures .1)
 loop-holds : tie.Need-loop-holds Inv-loop μ-loop
 loop-holds c =
     let start = start-of (c .before) in
-    let none = lines-none (rowLines (s start) (start .args .p)) in
+    let none = length-none (rowLines (s start) (start .args .p)) in
     (omega arith, omega arith, omega (arith, c .literal-size .ensures .1))
 
 mul-row-size : tie.Need-mul-row-size Inv-loop μ-loop
@@ -149,7 +149,7 @@ loop-again : tie.Need-loop-again Inv-loop μ-loop
 loop-again c =
     let l = c .before .before .loop in
     let from = start (c .before) in
-    let more = lines-more (rowLines (s from) (from .args .p)) (l .i) in
+    let more = length-more (rowLines (s from) (from .args .p)) (l .i) in
     let told = row-told (s from) (from .pre .0 .1) (from .args .p) (from .pre .1) _ _ _ _ _ _ _ _ (surveyed (facts (c .before))) (i (c .before)) (within (c .before)) in
     let row = ap length (told .0) in
     (omega (arith, c .before .loop-test .taken), omega (arith, l .inv .1, c .row-size .ensures .0), omega (arith, l .inv .2, c .row-size .ensures .1))

@@ -9,7 +9,7 @@ use Rattle.shape.specs.Bytes.{sideOf}
 use Rattle.dimacs.specs.Codes.{largeCode}
 use Rattle.crossings.specs.Codes.{crossLines}
 use Rattle.locations.specs.Codes.{rowOf}
-use Rattle.size_line.proofs.Laws.{lines-none, lines-more}
+use Rattle.model.proofs.Keeping.{length-none, length-more}
 use Rattle.size_location.proofs.row_size.Statement.{statement}
 use Rattle.size_location.proofs.row_size.Tie as tie
 
@@ -37,7 +37,7 @@ mul-down : tie.Need-mul-down Inv-loop μ-loop
 mul-down c = omega (arith, c .pre .0 .row)
 
 loop-holds : tie.Need-loop-holds Inv-loop μ-loop
-loop-holds c = (omega arith, sym (lines-none (lines c)), omega arith)
+loop-holds c = (omega arith, sym (length-none (lines c)), omega arith)
 
 mul-cross-size : tie.Need-mul-cross-size Inv-loop μ-loop
 mul-cross-size c = omega (arith, few c)
@@ -74,7 +74,7 @@ loop-less c = omega arith
 loop-again : tie.Need-loop-again Inv-loop μ-loop
 loop-again c =
     let l = c .before .before .loop in
-    let more = lines-more (lines (start-of (c .before))) (l .j) in
+    let more = length-more (lines (start-of (c .before))) (l .j) in
     (omega arith, omega (arith, l .inv .1, c .cross-size .ensures .0), omega (arith, l .inv .2, c .cross-size .ensures .1))
 
 returns : tie.Need-returns Inv-loop μ-loop

@@ -8,7 +8,7 @@ use Rattle.model.specs.Sheet.{sheetOf}
 use Rattle.formula.specs.Clause.{fields}
 use Rattle.formula.proofs.Small.{fields-few}
 use Rattle.sums.specs.Lines.{stepLines}
-use Rattle.size_line.proofs.Laws.{lines-none, lines-more}
+use Rattle.model.proofs.Keeping.{length-none, length-more}
 use Rattle.size_sum.proofs.steps_size.Statement.{statement}
 use Rattle.size_sum.proofs.steps_size.Tie as tie
 
@@ -24,7 +24,7 @@ fields-requires c κs = c .before .pre .0
 loop-holds : tie.Need-loop-holds Inv-loop μ-loop
 loop-holds c =
     let start = c .before .before in
-    (omega arith, sym (lines-none (stepLines (sheetOf (start .args .sheet .now)) (start .args .r))), omega arith)
+    (omega arith, sym (length-none (stepLines (sheetOf (start .args .sheet .now)) (start .args .r))), omega arith)
 
 step-size-requires : tie.Need-step-size-requires Inv-loop μ-loop
 step-size-requires c κs =
@@ -44,7 +44,7 @@ loop-again : tie.Need-loop-again Inv-loop μ-loop
 loop-again c =
     let l = c .before .before .loop in
     let start = c .before .before .before .before .before in
-    let more = lines-more (stepLines (sheetOf (start .args .sheet .now)) (start .args .r)) (l .k) in
+    let more = length-more (stepLines (sheetOf (start .args .sheet .now)) (start .args .r)) (l .k) in
     (omega (arith, c .before .loop-test .taken), omega (arith, l .inv .1, c .step-size .ensures .0), omega (arith, l .inv .2, c .step-size .ensures .1))
 
 returns : tie.Need-returns Inv-loop μ-loop
