@@ -17,7 +17,8 @@ pub fn verdict(most: f64, ratios: &[f64]) -> String {
     format!("\nA ratio of at most {most}: in {within} of {all} rows. The greatest: {greatest}.\n")
 }
 
-/// A ratio as tables show it: with two digits after the point, or up to four where they would be 0.
+/// A ratio as tables show it: with two digits after the point, with three below a tenth and four below a
+/// hundredth.
 pub fn times(ratio: f64) -> String {
     let digits = match ratio {
         _ if ratio < 0.01 => 4,

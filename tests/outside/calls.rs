@@ -91,7 +91,8 @@ impl Calls {
         got
     }
 
-    /// `tpl_count`; there are variables and clauses, and each line has some bytes, and not too many.
+    /// `tpl_count`; there are variables and clauses, and the lines have on average some bytes, and not too
+    /// many.
     pub fn count(&mut self, sheet: &[u8]) -> Outcome<u64> {
         let before = &COUNTS_BEFORE[..3];
         let case: &Case = &[("sheet", &Hex(sheet))];

@@ -27,7 +27,7 @@ extern "C" {
 
     /// Answers 1 for a clash and its filling, or 0 for none, or minus the refusal's number; the
     /// last two without a filling.
-    pub fn tpl_search(sheet: *const u8, n: usize, filling: *mut u8, cap: usize) -> i64;
+    fn tpl_search(sheet: *const u8, n: usize, filling: *mut u8, cap: usize) -> i64;
 
     /// Answers 0 and the counts of variables, clauses and bytes, or minus the refusal's number and no
     /// counts.
@@ -40,7 +40,7 @@ extern "C" {
     fn tpl_file(sheet: *const u8, n: usize, file: *mut u8, cap: usize) -> i64;
 
     /// Answers 0 and the filling, or minus the refusal's number and no filling.
-    pub fn tpl_reply(
+    fn tpl_reply(
         sheet: *const u8,
         n: usize,
         reply: *const u8,
@@ -50,7 +50,7 @@ extern "C" {
     ) -> i64;
 
     /// Answers the number of pairs and the list, or minus the refusal's number and no list.
-    pub fn tpl_book(book: *const u8, n: usize, list: *mut u8, cap: usize) -> i64;
+    fn tpl_book(book: *const u8, n: usize, list: *mut u8, cap: usize) -> i64;
 }
 
 /// What one call answered and left behind.

@@ -8,10 +8,10 @@ use std::ops::RangeInclusive;
 /// The shortest line is a clause of one literal of one digit, as in `3 0`.
 pub const SHORTEST_LINE: i64 = 4;
 pub const LONGEST_LINE: usize = writing::ROOMY;
-/// The smallest file is `p cnf 1 1` and `1 0`. That of the most clauses has 920,561 bytes, and none has a
-/// million.
+/// The smallest file is `p cnf 1 1` and `1 0`. None has more than 47,601 lines of 38 bytes each, which is
+/// proved; that of the most clauses has 920,561 bytes.
 const SMALLEST_FILE: i64 = 14;
-const LARGEST_FILE: i64 = 999_999;
+const LARGEST_FILE: i64 = 47_601 * 38;
 pub const LONGEST_TEXT: usize = 24;
 /// The refusals of a sheet, which every call that is given one has.
 const OF_SHEET: RangeInclusive<i64> = 1..=15;

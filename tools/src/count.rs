@@ -31,7 +31,7 @@ const NUMBERS: usize = MANY + EACH + CLAUSES + 2 * 3;
 const MOST_WIDE: usize = 110 - NUMBERS - 2;
 const FURTHER: &str = "      ";
 
-/// Whether the table and the file come to the engine's counts, and the lines.
+/// Whether the table and the lines of the file come to the engine's counts, and what is printed.
 pub fn of(input: &Input) -> (bool, Vec<String>) {
     let ticks = Ticks::of(&input.form);
     let counts = input.sheet.clause_counts();
@@ -64,8 +64,8 @@ fn ends(same_clauses: bool, same_bytes: bool) -> [&'static str; 2] {
             false => "THE TABLE AND THE ENGINE DIFFER. The engine's C is the proved one, so the table is WRONG. Do not use it.",
         },
         match same_bytes {
-            true => "The file and the engine come to the same bytes, with the line feed of each line counted.",
-            false => "THE FILE AND THE ENGINE'S COUNT OF ITS BYTES DIFFER. One of them is WRONG. Do not use either.",
+            true => "The lines one by one and the engine's count come to the same bytes, with the line feed of each line counted.",
+            false => "THE LINES AND THE ENGINE'S COUNT OF BYTES DIFFER. One of them is WRONG. Do not use either.",
         },
     ]
 }
@@ -81,7 +81,7 @@ fn written(sheet: &Sheet, clauses: u64) -> u64 {
     bytes
 }
 
-/// The rows of a sheet. In the last are C and the file's bytes, as they are found here and as the engine counts them.
+/// The rows of a sheet. In the last rows are C, as it is found here and as the engine counts it, and the file's bytes, line by line and as the engine counts them.
 fn rows(input: &Input, ticks: &Ticks, bytes: u64, engine: &ClauseCounts) -> Vec<Row> {
     let form = &input.form;
     let mut rows = Vec::new();
@@ -104,7 +104,7 @@ fn rows(input: &Input, ticks: &Ticks, bytes: u64, engine: &ClauseCounts) -> Vec<
     rows.extend(sums.map(|(label, sum)| row(label, Numbers::Sum(sum))));
     rows.push(row("", Numbers::Nothing));
     let sizes = [
-        ("written here", bytes),
+        ("line by line", bytes),
         ("counted by the engine", engine.bytes),
     ];
     rows.extend(sizes.map(|(how, size)| {
