@@ -1,4 +1,4 @@
--- `size_location::cross_size` meets its contract, by what stands on the left. Assumes nothing.
+-- `size_crossing::cross_size` meets its contract, by what stands on the left. Assumes nothing.
 use mathlib.Core.Path.{ap, sym, _∙_}
 use native.Mathlib.Omega.{arith}
 use lib.ListN.{length}
@@ -6,8 +6,8 @@ use Rattle.shape.specs.Bytes.{sideOf}
 use Rattle.shape.proofs.Sides.{says-used, says-letter, says-field}
 use Rattle.crossings.specs.Codes.{crossLines}
 use borrow.Author.Needs.{needs}
-use Rattle.size_location.proofs.cross_size.Statement.{statement}
-use Rattle.size_location.proofs.cross_size.Tie as tie
+use Rattle.size_crossing.proofs.cross_size.Statement.{statement}
+use Rattle.size_crossing.proofs.cross_size.Tie as tie
 
 past-size-requires : tie.Need-past-size-requires
 past-size-requires c κs = search needs

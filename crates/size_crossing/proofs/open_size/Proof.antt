@@ -1,4 +1,4 @@
--- `size_location::open_size` meets its contract, by what stands on the right. Assumes nothing.
+-- `size_crossing::open_size` meets its contract, by what stands on the right. Assumes nothing.
 use mathlib.Core.Path.{_≡_, ap, sym, subst, _∙_}
 use Prim.Native.Nat.{_-_, _<_}
 use native.Mathlib.Omega.{arith}
@@ -7,10 +7,10 @@ use Rattle.shape.proofs.Sides.{says-used, says-letter, says-field}
 use Rattle.formula.specs.Kind.{atLetter, atField, SideIn}
 use Rattle.shape.specs.Bytes.{sideOf}
 use Rattle.crossings.specs.Codes.{openLines}
-use Rattle.size_location.proofs.Laws.{open-used, open-letter, open-field}
+use Rattle.size_crossing.proofs.Laws.{open-used, open-letter, open-field}
 use borrow.Author.Needs.{needs}
-use Rattle.size_location.proofs.open_size.Statement.{statement}
-use Rattle.size_location.proofs.open_size.Tie as tie
+use Rattle.size_crossing.proofs.open_size.Statement.{statement}
+use Rattle.size_crossing.proofs.open_size.Tie as tie
 
 -- a letter on the right is one of l
 abbrev start-wide : tie.After-wide → tie.Start

@@ -1,4 +1,4 @@
--- `size_location::past_size` meets its contract, by what stands on the right. Assumes nothing.
+-- `size_crossing::past_size` meets its contract, by what stands on the right. Assumes nothing.
 use mathlib.Core.Path.{ap}
 use Prim.Native.Nat.{_+_, _-_}
 use native.Mathlib.Omega.{arith}
@@ -6,10 +6,10 @@ use lib.ListN.{length}
 use Rattle.shape.proofs.Sides.{says-used, says-letter, says-field}
 use Rattle.dimacs.proofs.Sizes.{line-one}
 use Rattle.crossings.specs.Codes.{pastLines}
-use Rattle.size_location.proofs.Laws.{past-field}
+use Rattle.size_crossing.proofs.Laws.{past-field}
 use borrow.Author.Needs.{needs}
-use Rattle.size_location.proofs.past_size.Statement.{statement}
-use Rattle.size_location.proofs.past_size.Tie as tie
+use Rattle.size_crossing.proofs.past_size.Statement.{statement}
+use Rattle.size_crossing.proofs.past_size.Tie as tie
 
 returns : tie.Need-returns
 returns c =

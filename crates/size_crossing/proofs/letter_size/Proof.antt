@@ -1,4 +1,4 @@
--- `size_location::letter_size` meets its contract, by what stands on the right. Assumes nothing.
+-- `size_crossing::letter_size` meets its contract, by what stands on the right. Assumes nothing.
 use mathlib.Core.Path.{ap, sym, _∙_}
 use Prim.Native.Nat.{_+_, _*_, _-_}
 use native.Mathlib.Omega.{arith}
@@ -8,10 +8,10 @@ use Rattle.shape.proofs.Sides.{says-used, says-letter, says-field}
 use Rattle.dimacs.specs.Codes.{codeSize}
 use Rattle.dimacs.proofs.Sizes.{line-one}
 use Rattle.crossings.specs.Codes.{letterLines}
-use Rattle.size_location.proofs.Laws.{letter-same, letter-other, letter-field}
+use Rattle.size_crossing.proofs.Laws.{letter-same, letter-other, letter-field}
 use borrow.Author.Needs.{needs}
-use Rattle.size_location.proofs.letter_size.Statement.{statement}
-use Rattle.size_location.proofs.letter_size.Tie as tie
+use Rattle.size_crossing.proofs.letter_size.Statement.{statement}
+use Rattle.size_crossing.proofs.letter_size.Tie as tie
 
 add-literal-size : tie.Need-add-literal-size
 add-literal-size c = search needs
