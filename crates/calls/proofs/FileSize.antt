@@ -87,7 +87,7 @@ module _ (b : List ℕ) (ok : Accepted b) where
       filing-file b room ok (omega arith) ∙ ap finished (sym (clauses-accepted b ok))
 
   -- Of sheets as bytes: line by line, where each line has room, the calls come to the same size and the same file. A line has at most 38 bytes, so that
-  -- "80 bytes a line" is always more than twice "too large".
+  -- "80 bytes a line" are always more than twice the size.
   module _ (y : Bytes b) where
     one-line : (room : ℕ) → 80 ≤ room → (n : ℕ) → n < suc (length (ids (sheetOf b))) → writing b n room ≡ finished (line (sheetOf b) n)
     one-line room h n l =
