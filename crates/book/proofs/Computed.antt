@@ -6,7 +6,7 @@ use Prim.Native.Nat.{ℕ, _+_, _*_}
 use lib.ListN.{length}
 use Rattle.model.specs.Lists.{startsWith, same, each, from, keep, all, any}
 use Rattle.model.specs.Sheet.{letter, field, row, times, width}
-use Rattle.model.specs.Word.{spell, sameWord, equationHolds, constraintHolds, keeps, solves}
+use Rattle.model.specs.Word.{spell, sameLetter, sameWord, equationHolds, constraintHolds, keeps, solves}
 use Rattle.model.specs.Solvable.{allTexts, substitutions, solvable}
 use Rattle.book.specs.Book.{Book, mark, count, someSymbols, aTemplate, someTemplates, body, opens, accepted, refused, readBook}
 use Rattle.book.specs.Pairs.{asked, question, Pair, pairs, clashing, listBytes}
@@ -71,7 +71,7 @@ pairs-of-four = refl
 
 -- ABA is spelled by both of the first two, with B and with A for their fields; the third spells the empty text, which neither of them does.
 pub clashing-of-three : clashing three ≡ record { first = 0; second = 1 } ∷ []
-unfolding clashing pairs keep each from asked solvable substitutions allTexts any all solves equationHolds constraintHolds sameWord keeps same spell
+unfolding clashing pairs keep each from asked solvable substitutions allTexts any all solves equationHolds constraintHolds sameLetter sameWord keeps same spell
 clashing-of-three = refl
 
 -- Field 0 of the one template is not field 0 of the other: A and a text, and a text and B, both spell AB, with B for the one field and A for the other. Were
@@ -86,12 +86,12 @@ own-fields = record {
 }
 
 pub clashing-of-own : clashing own-fields ≡ record { first = 0; second = 1 } ∷ []
-unfolding clashing pairs keep each from asked solvable substitutions allTexts any all solves equationHolds constraintHolds sameWord keeps same spell
+unfolding clashing pairs keep each from asked solvable substitutions allTexts any all solves equationHolds constraintHolds sameLetter sameWord keeps same spell
 clashing-of-own = refl
 
 -- and the list's bytes
 pub bytes-of-own : listBytes own-fields ≡ 0 ∷ 1 ∷ []
-unfolding listBytes clashing pairs keep each from asked solvable substitutions allTexts any all solves equationHolds constraintHolds sameWord keeps same spell
+unfolding listBytes clashing pairs keep each from asked solvable substitutions allTexts any all solves equationHolds constraintHolds sameLetter sameWord keeps same spell
 bytes-of-own = refl
 
 -- a damaged book and its refusal

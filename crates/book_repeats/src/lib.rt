@@ -1,6 +1,6 @@
 // What was asked before, of an accepted book: which templates are the same, and whether a pair is in a list. It knows nothing of how two templates are asked.
+use scan::same;
 use scan::wide;
-use words::same;
 ghost use mathlib.Core.Path.{_≡_};
 ghost use mathlib.Core.Bool.{_&&_};
 ghost use Prim.Native.Nat.{_<_, _≤_};

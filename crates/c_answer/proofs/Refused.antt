@@ -11,7 +11,7 @@ use Rattle.calls.specs.Calls.{Answer, refused, finished, sized, unnumbered}
 use Rattle.calls.specs.Rules.{Rule, Kept, First}
 use Rattle.calls.proofs.Operations.{not-finished}
 use Rattle.calls.proofs.Demands.{InOrder, Unchanged}
-use Rattle.c_answer.specs.Returned.{returned, lentAfter, returnedNumber, Handed}
+use Rattle.c_answer.specs.Returned.{returned, lentAfter, returnedNumber, Handed, arrayAfter, Explained}
 use Rattle.c_answer.proofs.Told.{negative}
 
 pub record Tells (rules : List Rule) (r : ℤ) : Type 0 where
@@ -77,6 +77,9 @@ leaves ways (finished values) kept n h e = negative n h (sym e ∙ ways .plain v
 lent-kept : (a : Answer) (before : List ℕ) (n : ℕ) → a ≡ refused n → lentAfter a before ≡ before
 lent-kept a before n e = rw e refl
 
+array-kept : (a : Answer) (before : List ℕ) (n : ℕ) → a ≡ refused n → arrayAfter a before ≡ before
+array-kept a before n e = rw e refl
+
 sized-refused : (a : Answer) (n : ℕ) → sized a ≡ refused n → a ≡ refused n
 sized-refused (refused m) n e = e
 sized-refused (finished values) n e = not-finished (sym e)
@@ -95,3 +98,8 @@ module _ (r : ℤ) (before after : List ℕ) where
       → Handed a before r after → Tells rules r × Leaves r before after
   written-first a d from-one call =
       rw (call .0) (tells as-number (sized a) (d .0) (λ n e. from-one n (sized-refused a n e)), leaves as-number (sized a) (d .1))
+
+  -- and one that explains what it answers in a lent array
+  pub explained-first : {rules : List Rule} (a : Answer) → InOrder rules a → ((n : ℕ) → a ≡ refused n → 1 ≤ n) → Explained a before r after
+      → Tells rules r × Leaves r before after
+  explained-first a o from-one call = rw (call .0, call .1) (tells as-number a o from-one, leaves as-number a (array-kept a before))

@@ -32,3 +32,13 @@ HandedOver a before r after = (r ≡ returned a) × (after ≡ written a before)
 -- a call that returns the first of the answer's values, and hands the others over in a lent buffer
 abbrev pub Decided : Answer → List ℕ → ℤ → List ℕ → Type 0
 Decided a before r after = (r ≡ returnedNumber a) × (after ≡ written (following a) before)
+
+-- a call that returns the first of the answer's values, and puts the others into a lent array of as many numbers; where there are no others, it stays as it was
+abbrev pub arrayAfter : Answer → List ℕ → List ℕ
+arrayAfter (refused n) before = before
+arrayAfter (finished []) before = before
+arrayAfter (finished (n ∷ [])) before = before
+arrayAfter (finished (n ∷ k ∷ others)) before = k ∷ others
+
+abbrev pub Explained : Answer → List ℕ → ℤ → List ℕ → Type 0
+Explained a before r after = (r ≡ returnedNumber a) × (after ≡ arrayAfter a before)

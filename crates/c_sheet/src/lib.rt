@@ -4,7 +4,16 @@ use c_answer::minus;
 ghost use mathlib.Core.Path.{_≡_};
 ghost use lib.ListN.{length};
 ghost use Rattle.calls.specs.Calls.{reading, checking, spelling};
-ghost use Rattle.c_answer.specs.Returned.{returned, lentAfter, returnedNumber, Handed};
+ghost use Rattle.c_answer.specs.Returned.{returned, lentAfter, Handed, Explained};
+
+// The answers of checking, and the causes why a filling does not clash.
+const CLASH: i64 = 1;
+
+const DOES_NOT_CLASH: i64 = 0;
+
+const PAIR_DIFFERS: u64 = 1;
+
+const RULE_BROKEN: u64 = 2;
 
 // `tpl_read`: the four counts go to `counts`.
 pub fn read(sheet: &[u8], counts: &mut [u64; 4]) -> i64
@@ -23,13 +32,26 @@ pub fn read(sheet: &[u8], counts: &mut [u64; 4]) -> i64
     }
 }
 
-// `tpl_check`: 1 for a clash, 0 for none.
-pub fn check(sheet: &[u8], filling: &[u8]) -> i64
-    ensures { λ r. ⌜ r ≡ returnedNumber (checking (now (sheet .entry)) (now (filling .entry))) ⌝ }
+// `tpl_check`: 1 for a clash; 0 for none, with the cause in `why`: the pair that differs, the letters that agree, the side and the length of the rest; or the rule
+// broken.
+pub fn check(sheet: &[u8], filling: &[u8], why: &mut [u64; 5]) -> i64
+    ensures { λ r. ⌜ Explained (checking (now (sheet .entry)) (now (filling .entry))) (now (why .entry)) r (now (why .exit)) ⌝ }
 {
     match substitution::check(sheet, filling) {
-        substitution::Checking::Solves => 1,
-        substitution::Checking::DoesNot => 0,
+        substitution::Checking::Solves => CLASH,
+        substitution::Checking::Differs(equation, found) => {
+            let pair = equation as u64;
+            let agreeing = found.agreeing as u64;
+            let side = found.side as u64;
+            let rest = found.rest as u64;
+            *why = [PAIR_DIFFERS, pair, agreeing, side, rest];
+            DOES_NOT_CLASH
+        }
+        substitution::Checking::Breaks(constraint) => {
+            let rule = constraint as u64;
+            *why = [RULE_BROKEN, rule, 0, 0, 0];
+            DOES_NOT_CLASH
+        }
         substitution::Checking::Refused(refusal) => minus(substitution::number(refusal)),
     }
 }

@@ -3,9 +3,10 @@
 use mathlib.Core.Path.{_≡_, refl}
 use mathlib.Core.List.{List, [], _∷_, _++_, map}
 use Prim.Native.Nat.{ℕ}
-use Rattle.model.specs.Lists.{startsWith, same, each, from, all, any, keep, total}
+use Rattle.model.specs.Lists.{startsWith, same, leading, each, from, all, any, keep, total}
 use Rattle.model.specs.Sheet.{row, times, sides, anEquation, aConstraint, walk, width, signed, opening, read}
-use Rattle.model.specs.Word.{spell, weight, sameWord, equationHolds, constraintHolds, keeps, solves}
+use Rattle.model.specs.Word.{spell, weight, sameLetter, sameWord, equationHolds, constraintHolds, keeps, solves}
+use Rattle.model.specs.Mismatch.{agreeing, judged}
 use Rattle.model.specs.Solvable.{allTexts, substitutions, solvable}
 use Rattle.model.specs.Order.{totalLength, fieldLetters, ranks, lex, earliest, firstSolution}
 use Rattle.model.specs.Filling.{places, aText, texts, filling, encodeFilling}
@@ -41,6 +42,10 @@ ruled = sheet 1 2 1 2 (65 ∷ 8 ∷ 0 ∷ 1 ∷ 1 ∷ 128 ∷ 128 ∷ 4 ∷ 0 �
 abbrev several : List ℕ
 several = sheet 2 2 1 0 (65 ∷ 66 ∷ 2 ∷ 2 ∷ 2 ∷ 2 ∷ 1 ∷ 0 ∷ 129 ∷ 128 ∷ [])
 
+-- X of limit 1 against A, and the rule 1 × X at most -1, which nothing keeps
+abbrev unruly : List ℕ
+unruly = sheet 1 1 1 1 (65 ∷ 1 ∷ 1 ∷ 1 ∷ 128 ∷ 0 ∷ 1 ∷ 255 ∷ 255 ∷ [])
+
 -- a field's nine bytes, from the first three on
 abbrev pub nine : ℕ → ℕ → ℕ → List ℕ
 nine n a b = n ∷ a ∷ b ∷ 255 ∷ 255 ∷ 255 ∷ 255 ∷ 255 ∷ 255 ∷ []
@@ -60,9 +65,18 @@ infix 5 _checks_
 abbrev pub checked : List Check
 checked =
     (empty ++ empty checks finished (1 ∷ []))
-    ∷ (nine 1 0 255 ++ empty checks finished (0 ∷ []))
-    -- the first pair holds, the second does not
-    ∷ (empty ++ nine 1 1 255 checks finished (0 ∷ []))
+    -- X=A, Y empty: AA against A. X=B, Y=A: BAA against AA. X=BB, Y=B: BBAB against AB. One letter agrees, and then none; both times the left text has more
+    ∷ (nine 1 0 255 ++ empty checks finished (0 ∷ 1 ∷ 0 ∷ 1 ∷ 0 ∷ 1 ∷ []))
+    ∷ (nine 1 1 255 ++ nine 1 0 255 checks finished (0 ∷ 1 ∷ 0 ∷ 0 ∷ 0 ∷ 3 ∷ []))
+    ∷ (nine 2 1 1 ++ nine 1 1 255 checks finished (0 ∷ 1 ∷ 0 ∷ 0 ∷ 0 ∷ 4 ∷ []))
+    -- the first pair holds, the second does not: B against nothing
+    ∷ (empty ++ nine 1 1 255 checks finished (0 ∷ 1 ∷ 1 ∷ 0 ∷ 0 ∷ 1 ∷ []))
+    -- BA against BAA, the left text used up; and against nothing
+    ∷ record { on = several; of = nine 1 0 255 ++ nine 2 1 0; answer = finished (0 ∷ 1 ∷ 0 ∷ 2 ∷ 1 ∷ 1 ∷ []) }
+    ∷ record { on = several; of = empty ++ empty; answer = finished (0 ∷ 1 ∷ 0 ∷ 0 ∷ 0 ∷ 2 ∷ []) }
+    -- nothing against A, and a rule broken: the pair is told; A against A: the rule
+    ∷ record { on = unruly; of = empty; answer = finished (0 ∷ 1 ∷ 0 ∷ 0 ∷ 1 ∷ 1 ∷ []) }
+    ∷ record { on = unruly; of = nine 1 0 255; answer = finished (0 ∷ 2 ∷ 0 ∷ 0 ∷ 0 ∷ 0 ∷ []) }
     -- the size, with a length above the limit
     ∷ ([] checks refused 20)
     ∷ (nine 3 0 0 checks refused 20)
@@ -86,12 +100,12 @@ checked =
     -- a full field of eight letters, one of limit 0, and two rules: at their limits, and the second one above
     ∷ record { on = ruled; of = (8 ∷ 0 ∷ 0 ∷ 0 ∷ 0 ∷ 0 ∷ 0 ∷ 0 ∷ 0 ∷ []) ++ empty; answer = finished (1 ∷ []) }
     ∷ record { on = ruled; of = (8 ∷ 0 ∷ 0 ∷ 0 ∷ 0 ∷ 0 ∷ 0 ∷ 0 ∷ 255 ∷ []) ++ empty; answer = refused 22 }
-    ∷ record { on = ruled; of = (7 ∷ 0 ∷ 0 ∷ 0 ∷ 0 ∷ 0 ∷ 0 ∷ 0 ∷ 255 ∷ []) ++ empty; answer = finished (0 ∷ []) }
+    ∷ record { on = ruled; of = (7 ∷ 0 ∷ 0 ∷ 0 ∷ 0 ∷ 0 ∷ 0 ∷ 0 ∷ 255 ∷ []) ++ empty; answer = finished (0 ∷ 2 ∷ 1 ∷ 0 ∷ 0 ∷ 0 ∷ []) }
     ∷ record { on = ruled; of = (7 ∷ 0 ∷ 0 ∷ 0 ∷ 0 ∷ 0 ∷ 0 ∷ 0 ∷ 255 ∷ []) ++ nine 1 0 255; answer = refused 21 }
     ∷ []
 
 pub check-answers : map (λ (c : Check). checking (c .on) (c .of)) checked ≡ map (λ (c : Check). c .answer) checked
-unfolding startsWith row times sides anEquation aConstraint walk width signed opening read each all same spell weight sameWord equationHolds constraintHolds keeps solves places aText texts filling checking
+unfolding startsWith row times sides anEquation aConstraint walk width signed opening read each leading spell weight sameLetter sameWord equationHolds constraintHolds agreeing judged places aText texts filling checking
 check-answers = refl
 
 pub record Spell : Type 0 where
@@ -207,7 +221,7 @@ searches =
     ∷ []
 
 pub search-answers : map (λ (c : Search). searching (c .on) (c .room)) searches ≡ map (λ (c : Search). c .answer) searches
-unfolding startsWith row times sides anEquation aConstraint walk width signed opening read each from all any same spell weight sameWord equationHolds constraintHolds keeps solves allTexts substitutions solvable keep totalLength fieldLetters ranks lex earliest firstSolution encodeFilling searchingOf searching
+unfolding startsWith row times sides anEquation aConstraint walk width signed opening read each from all any same spell weight sameLetter sameWord equationHolds constraintHolds keeps solves allTexts substitutions solvable keep totalLength fieldLetters ranks lex earliest firstSolution encodeFilling searchingOf searching
 search-answers = refl
 
 -- What the search program prints, for document 01's sheet P "`clash`, `field 0=A`, `pair 0=A`"; with limit 0, and with a byte left over.
@@ -216,7 +230,7 @@ pub search-prints : map searchPrinted (P ∷ sheet 1 1 1 0 (65 ∷ 0 ∷ 1 ∷ 1
     ∷ (97 ∷ 112 ∷ 97 ∷ 114 ∷ 116 ∷ 10 ∷ [])
     ∷ (114 ∷ 101 ∷ 102 ∷ 117 ∷ 115 ∷ 101 ∷ 100 ∷ 32 ∷ 57 ∷ 10 ∷ [])
     ∷ []
-unfolding startsWith row times sides anEquation aConstraint walk width signed opening read each from all any same spell weight sameWord equationHolds constraintHolds keeps solves allTexts substitutions solvable keep totalLength fieldLetters ranks lex earliest firstSolution digits decimal refusedLine report searchPrinted
+unfolding startsWith row times sides anEquation aConstraint walk width signed opening read each from all any same spell weight sameLetter sameWord equationHolds constraintHolds keeps solves allTexts substitutions solvable keep totalLength fieldLetters ranks lex earliest firstSolution digits decimal refusedLine report searchPrinted
 search-prints = refl
 
 -- A book's list: the number of pairs, and their bytes.
@@ -248,5 +262,5 @@ compares =
     ∷ []
 
 pub compare-answers : map (λ (c : Compare). comparing (c .on) (c .room)) compares ≡ map (λ (c : Compare). c .answer) compares
-unfolding startsWith row times width count someSymbols aTemplate someTemplates body opens readBook each from all any same spell weight sameWord equationHolds constraintHolds keeps solves allTexts substitutions solvable keep question.asked pairs clashing listBytes comparingOf comparing
+unfolding startsWith row times width count someSymbols aTemplate someTemplates body opens readBook each from all any same spell weight sameLetter sameWord equationHolds constraintHolds keeps solves allTexts substitutions solvable keep question.asked pairs clashing listBytes comparingOf comparing
 compare-answers = refl

@@ -26,7 +26,7 @@ use Rattle.model.proofs.Reading.{read-encode}
 use Rattle.model.proofs.Known.{accepted-bytes, accepted-in-range}
 use Rattle.calls.proofs.Read.{reading-accepted, reading-counts}
 use Rattle.calls.proofs.Operations.{not-finished, writing-line, counting-counts}
-use Rattle.calls.proofs.Passed.{verdict-same, FillingOf, answered, checking-decides, passed-solves, solves-passed, spelled-text}
+use Rattle.calls.proofs.Passed.{verdict-same, FillingOf, answered, checking-judges, passed-solves, solves-passed, spelled-text}
 use Rattle.formula.proofs.Numbering.{numbering, variable-count}
 use Rattle.formula.proofs.Figures.{decimal-value}
 use Rattle.formula.proofs.Lines.{numbers-line}
@@ -118,7 +118,7 @@ module _ (b : List ℕ) where
         let all-kept = append-in _ (sheetRules b) (fillingRules (sheetOf b) m) (accepted-breaks-none .0 ok) h in
         let a = answered b m y (checking-gives-the-first-refusal m .none .0 all-kept .1) in
         (a .substitution, a .is-filling)),
-    λ f. append-out _ (sheetRules b) (fillingRules (sheetOf b) m) (checking-gives-the-first-refusal m .none .1 (_, checking-decides b m y (f .0) (f .1))) .1,
+    λ f. append-out _ (sheetRules b) (fillingRules (sheetOf b) m) (checking-gives-the-first-refusal m .none .1 (_, checking-judges b m y (f .0) (f .1))) .1,
   )
 
 -- Demand 2.

@@ -8,15 +8,15 @@ use lib.Dec.{leb, ltb, eqb}
 use lib.ListN.{length, getD, take, drop, drop-of-length-le}
 use lib.Seq.{drop-cons, getD-take, getD-drop}
 use borrow.Author.Tests.{ltb-true, ltb-false, leb-true, leb-false, eqb-true}
-use Rattle.model.specs.Lists.{pick}
 use Rattle.model.specs.Sheet as sheet
 use Rattle.model.specs.Sheet.{Sheet, Step, got, fault, _then_, must, Role, letterByte, limitByte, countByte, templateByte, coefficientByte, mostByte, passes, refusalOf, width, row, times, sides, anEquation, aConstraint, walk, opening, byte, Counts, countsAt, ended, read, countsOf, sheetOf}
 use Rattle.model.specs.Word.{Substitution, solves}
+use Rattle.model.specs.Mismatch.{judged}
 use Rattle.model.specs.Filling.{places, aText, texts, filling, encodeFilling, substitutionIn}
 use Rattle.formula.specs.Dimacs.{line, file}
 use Rattle.formula.specs.Assignment.{spelled}
 use Rattle.calls.specs.Reply.{assigned}
-use Rattle.calls.specs.Calls.{Answer, refused, finished, ofSheet, ofFilling, require, fourCounts, reading, verdict, checking, spelledText, spellingOf, spelling, searchValues, searchingOf, searching, decision, clauseCounts, counting, writingOf, writing, filingOf, filing, formed, decoding, replyingOf, replying, sized, unnumbered}
+use Rattle.calls.specs.Calls.{Answer, refused, finished, ofSheet, ofFilling, require, fourCounts, reading, judgementValues, checking, spelledText, spellingOf, spelling, searchValues, searchingOf, searching, decision, clauseCounts, counting, writingOf, writing, filingOf, filing, formed, decoding, replyingOf, replying, sized, unnumbered}
 use Rattle.calls.specs.Rules.{Rule, _asks_, rowRules, severalRules, past, symbolsAt, sidesRules, equationRules, equationBytes, constraintRules, constraintsAt, endAt, walkRules, openingRules, sheetRules, placeRules, textRules, fillingRules, afterSheet, spellingRules, roomRule, writingRules, filingRule, replyingRules}
 use Rattle.model.proofs.Lists.{by-test}
 use Rattle.formula.proofs.Lines.{file-size}
@@ -187,7 +187,7 @@ reading-ordered b = sheet-alone b (λ s. fourCounts (countsOf s))
 pub checking-ordered : (b m : List ℕ) → Ordered (afterSheet b (λ s. fillingRules s m)) (checking b m)
 unfolding checking inOrder
 checking-ordered b m = after-sheet b _ (λ s. fillingRules s m) (λ s.
-    rw append-nil at (after-filling s m (λ g. verdict (solves s g)) (λ g. []) (λ g. record { values = pick (solves s g) 1 0 ∷ []; is = refl })))
+    rw append-nil at (after-filling s m (λ g. finished (judgementValues (judged s g))) (λ g. []) (λ g. record { values = judgementValues (judged s g); is = refl })))
 
 pub spelling-ordered : (b : List ℕ) (p side : ℕ) (m : List ℕ) (room : ℕ) → Ordered (afterSheet b (spellingRules p side m room)) (spelling b p side m room)
 unfolding spelling spellingOf spellingRules inOrder

@@ -21,5 +21,6 @@ pub mod FirstClash
 pub mod TickedOff
 pub mod BookOfTemplates
 pub mod FileSize
+pub mod LeftOver
 pub mod Listings
 pub mod Printing

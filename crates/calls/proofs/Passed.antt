@@ -11,13 +11,15 @@ use borrow.Author.Tests.{ltb-true, leb-true}
 use Rattle.model.specs.Lists.{Bytes}
 use Rattle.model.specs.Sheet.{Sheet, got, letterOf, equation, template, Accepted, sheetOf}
 use Rattle.model.specs.Word.{Substitution, Legal, letterBytes, spell, EquationHolds, Solves, solves}
+use Rattle.model.specs.Mismatch.{Judgement, solution, differs, breaks, isSolution, judged}
 use Rattle.model.specs.Filling.{filling, encodeFilling}
 use Rattle.calls.specs.Report.{labelledLine, pairName, pairLine}
-use Rattle.calls.specs.Calls.{finished, verdict, checking, spelling, spellingOf, spelledText}
-use Rattle.model.proofs.Lists.{by-test, at}
+use Rattle.calls.specs.Calls.{finished, judgementValues, verdict, checking, decision, spelling, spellingOf, spelledText}
+use Rattle.model.proofs.Lists.{never, by-test, at}
 use Rattle.model.proofs.Known.{accepted-in-range}
 use Rattle.model.proofs.Fillings.{filling-reads, filling-exact}
 use Rattle.model.proofs.Words.{same-word-equal, solves-out, solves-in}
+use Rattle.model.proofs.Judged.{solves-judged}
 use Rattle.model.proofs.Templates.{template-room}
 use Rattle.calls.proofs.Operations.{sheet-accepted, sheet-finished, required, filling-finished, spelling-on, spelling-text, same-values}
 
@@ -27,6 +29,17 @@ verdict-same true true e = refl
 verdict-same false false e = refl
 verdict-same true false e = let z : _≡_ {A = ℕ} 0 1 = cc in absurd (omega arith)
 verdict-same false true e = let z : _≡_ {A = ℕ} 0 1 = cc in absurd (omega arith)
+
+-- 1 for a solution, and 0 first for all else
+pub decides : (j : Judgement) → decision (finished (judgementValues j)) ≡ verdict (isSolution j)
+decides solution = refl
+decides (differs p agree side rest) = refl
+decides (breaks r) = refl
+
+passes : (j : Judgement) → isSolution j ≡ true → judgementValues j ≡ 1 ∷ []
+passes solution e = refl
+passes (differs p agree side rest) e = never e
+passes (breaks r) e = never e
 
 -- The bytes m are a filling of the accepted sheet b: those of a legal substitution g.
 pub record FillingOf (b m : List ℕ) (g : Substitution) : Type 0 where
@@ -40,19 +53,22 @@ module _ (b m : List ℕ) (y : Bytes b) where
     pub filling-read : filling (sheetOf b) m ≡ got g []
     filling-read = ap (filling (sheetOf b)) (h .bytes) ∙ filling-reads (sheetOf b) g (accepted-in-range b y (h .accepted)) (h .legal)
 
-    pub checking-decides : checking b m ≡ verdict (solves (sheetOf b) g)
+    pub checking-judges : checking b m ≡ finished (judgementValues (judged (sheetOf b) g))
     unfolding checking
-    checking-decides = sheet-accepted b _ (h .accepted) ∙ rw filling-read
+    checking-judges = sheet-accepted b _ (h .accepted) ∙ rw filling-read
+
+    pub checking-decides : decision (checking b m) ≡ verdict (solves (sheetOf b) g)
+    checking-decides = ap decision checking-judges ∙ decides (judged (sheetOf b) g) ∙ sym (ap verdict (solves-judged (sheetOf b) g))
 
     -- "A filling is passed exactly when it solves the sheet as a bounded word equation with linear length constraints."
     pub solves-passed : Solves (sheetOf b) g → checking b m ≡ finished (1 ∷ [])
-    solves-passed k = checking-decides ∙ ap verdict (solves-in (sheetOf b) g k)
+    solves-passed k = checking-judges ∙ ap finished (passes (judged (sheetOf b) g) (sym (solves-judged (sheetOf b) g) ∙ solves-in (sheetOf b) g k))
 
     pub passed-solves : checking b m ≡ finished (1 ∷ []) → Solves (sheetOf b) g
-    passed-solves e = solves-out (sheetOf b) g (h .legal) (verdict-same (solves (sheetOf b) g) true (sym checking-decides ∙ e))
+    passed-solves e = solves-out (sheetOf b) g (h .legal) (verdict-same (solves (sheetOf b) g) true (sym checking-decides ∙ ap decision e))
 
     -- and else the answer is "no clash"
-    pub fails-not-passed : (Solves (sheetOf b) g → ⊥) → checking b m ≡ finished (0 ∷ [])
+    pub fails-not-passed : (Solves (sheetOf b) g → ⊥) → decision (checking b m) ≡ verdict false
     fails-not-passed k = by-test (solves (sheetOf b) g)
         (λ t. absurd (k (solves-out (sheetOf b) g (h .legal) t)))
         (λ t. checking-decides ∙ ap verdict t)

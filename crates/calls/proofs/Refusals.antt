@@ -10,11 +10,12 @@ use lib.ListN.{length, getD}
 use Rattle.model.specs.Lists.{between, startsWith}
 use Rattle.model.specs.Sheet as sheet
 use Rattle.model.specs.Sheet.{Sheet, symbolOf, width, sixteen, Step, got, fault, _then_, must, Role, letterByte, limitByte, countByte, templateByte, coefficientByte, mostByte, passes, refusalOf, row, times, sides, anEquation, aConstraint, Counts, mark, byte, opening, walk, Reading, ended, read}
-use Rattle.model.specs.Word.{Substitution, solves}
+use Rattle.model.specs.Word.{Substitution}
+use Rattle.model.specs.Mismatch.{Judgement, solution, differs, breaks, judged}
 use Rattle.formula.specs.Clause.{ids}
 use Rattle.formula.specs.Dimacs.{line}
 use Rattle.model.specs.Filling.{places, aText, texts, filling}
-use Rattle.calls.specs.Calls.{refused, finished, ofSheet, ofFilling, readingOf, reading, verdict, checking, Answer, require, spelledText, spellingOf, spelling, counting, writingOf, writing}
+use Rattle.calls.specs.Calls.{refused, finished, ofSheet, ofFilling, readingOf, reading, judgementValues, checking, Answer, require, spelledText, spellingOf, spelling, counting, writingOf, writing}
 
 -- a fault's number is from the one to the other
 abbrev Numbered : {A : Type 0} → ℕ → ℕ → Step A → Type 0
@@ -171,17 +172,18 @@ writing-refused b k room = not-zero (writing b k room) (not-zero-sheet b _ (λ s
     not-zero-require (leb k (length (ids s))) 28 _ (omega arith)
     (not-zero-require (leb (length (line s k)) room) 29 _ (omega arith) tt)))
 
--- Checking answers 1, 0, or a refusal whose number is not 0.
-module _ {P : Type 0} (b m : List ℕ) (clash : checking b m ≡ finished (1 ∷ []) → P) (none : checking b m ≡ finished (0 ∷ []) → P) (not-read : (n : ℕ) → checking b m ≡ refused n → 1 ≤ n → P) where
-  by-test-of : (t : Bool) → checking b m ≡ verdict t → P
-  by-test-of true e = clash e
-  by-test-of false e = none e
+-- Checking answers 1; 0 and five numbers more; or a refusal whose number is not 0.
+module _ {P : Type 0} (b m : List ℕ) (clash : checking b m ≡ finished (1 ∷ []) → P) (none : (why : List ℕ) → length why ≡ 5 → checking b m ≡ finished (0 ∷ why) → P) (not-read : (n : ℕ) → checking b m ≡ refused n → 1 ≤ n → P) where
+  by-judgement : (j : Judgement) → checking b m ≡ finished (judgementValues j) → P
+  by-judgement solution e = clash e
+  by-judgement (differs p agree side rest) e = none _ refl e
+  by-judgement (breaks r) e = none _ refl e
 
-  by-filling : (s : Sheet) (w : Step Substitution) → Numbered 20 23 w → checking b m ≡ ofFilling w (λ g. verdict (solves s g)) → P
-  by-filling s (got g xs) h e = by-test-of (solves s g) e
+  by-filling : (s : Sheet) (w : Step Substitution) → Numbered 20 23 w → checking b m ≡ ofFilling w (λ g. finished (judgementValues (judged s g))) → P
+  by-filling s (got g xs) h e = by-judgement (judged s g) e
   by-filling s (fault n) h e = not-read n e (omega arith)
 
-  by-reading : (r : Reading) → ((n : ℕ) → readingOf r ≡ refused n → 1 ≤ n) → checking b m ≡ ofSheet r (λ s. ofFilling (filling s m) (λ g. verdict (solves s g))) → P
+  by-reading : (r : Reading) → ((n : ℕ) → readingOf r ≡ refused n → 1 ≤ n) → checking b m ≡ ofSheet r (λ s. ofFilling (filling s m) (λ g. finished (judgementValues (judged s g)))) → P
   by-reading (sheet.accepted s) h e = by-filling s (filling s m) (of-filling s m) e
   by-reading (sheet.refused n) h e = not-read n e (h n refl)
 

@@ -9,6 +9,7 @@ use Rattle.model.specs.Lists.{pick, all}
 use Rattle.model.specs.Sheet as sheet
 use Rattle.model.specs.Sheet.{Sheet, Step, got, fault, Counts, countsOf, Reading, read, template}
 use Rattle.model.specs.Word.{Substitution, letterBytes, spell, solves}
+use Rattle.model.specs.Mismatch.{Judgement, solution, differs, breaks, judged}
 use Rattle.model.specs.Solvable.{solvable}
 use Rattle.model.specs.Order.{firstSolution}
 use Rattle.model.specs.Filling.{filling, encodeFilling}
@@ -50,12 +51,19 @@ readingOf r = ofSheet r (λ s. finished (fourCounts (countsOf s)))
 unfoldable pub reading : List ℕ → Answer
 reading b = readingOf (read b)
 
--- Checking a filling: "The answer is clash or no clash", 1 or 0.
-abbrev pub verdict : Bool → Answer
-verdict clash = finished (pick clash 1 0 ∷ [])
+-- Checking a filling: "The answer is clash or no clash", 1 or 0. After 0 come five numbers more, the cause (document 02, No. 5): 1, "for the first pair that
+-- differs, the pair's number, the count of agreeing letters, and the side and length of the rest"; "or else" 2 and "the number of the first rule broken".
+abbrev pub judgementValues : Judgement → List ℕ
+judgementValues solution = 1 ∷ []
+judgementValues (differs p agree side rest) = 0 ∷ 1 ∷ p ∷ agree ∷ side ∷ rest ∷ []
+judgementValues (breaks r) = 0 ∷ 2 ∷ r ∷ 0 ∷ 0 ∷ 0 ∷ []
 
 unfoldable pub checking : List ℕ → List ℕ → Answer
-checking b m = ofSheet (read b) (λ s. ofFilling (filling s m) (λ g. verdict (solves s g)))
+checking b m = ofSheet (read b) (λ s. ofFilling (filling s m) (λ g. finished (judgementValues (judged s g))))
+
+-- clash or not, as a number
+abbrev pub verdict : Bool → Answer
+verdict clash = finished (pick clash 1 0 ∷ [])
 
 -- Spelling: "24 pair number not below E; 25 side not 0 (left) or 1 (right); 20 to 23; 26 buffer shorter than the text." The values are
 -- the text's bytes.
@@ -100,7 +108,7 @@ unfoldable pub searching : List ℕ → ℕ → Answer
 searching b room = ofSheet (read b) (λ s. searchingOf s room)
 
 -- A call that answers the first of its values and hands the others over: "A clash fills the first 9 × V bytes and no more; apart changes none." Refused, "no
--- lent byte changes". A book's list (below) is another. `Decides` says both of an answer and of a buffer before and after. The first of the values; and those that
+-- lent byte changes". A book's list (below) is another, and so is checking, whose cause goes to a lent array. `Decides` says both of an answer and of a buffer before and after. The first of the values; and those that
 -- follow it.
 abbrev pub decision : Answer → Answer
 decision (refused n) = refused n

@@ -3,7 +3,7 @@
 ghost use mathlib.Core.Path.{_≡_};
 ghost use lib.ListN.{length};
 ghost use Rattle.calls.specs.Calls.{reading, checking, spelling, searching, counting, writing, filing, replying, comparing};
-ghost use Rattle.c_answer.specs.Returned.{returned, lentAfter, returnedNumber, Handed, HandedOver, Decided};
+ghost use Rattle.c_answer.specs.Returned.{returned, lentAfter, Handed, HandedOver, Decided, Explained};
 
 // Reads a sheet of any bytes. Returns 0, with its four counts (letters, fields, pairs, rules) in `counts`; or minus
 // document 01's number of the first refusal, with `counts` as it was.
@@ -14,12 +14,14 @@ pub extern "C" fn tpl_read(sheet: &[u8], counts: &mut [u64; 4]) -> i64
     c_sheet::read(sheet, counts)
 }
 
-// Checks a filling, of any bytes. Returns 1 for a clash, 0 for none; or minus document 01's number of the first refusal.
+// Checks a filling, of any bytes. Returns 1 for a clash, with `why` as it was; 0 for none, with the cause in `why`: 1, the first pair that differs, how many letters
+// agree, the side of the rest and its length; or else 2, the first rule broken, and three zeros. Or it returns minus document 01's number of the first refusal, with
+// `why` as it was.
 #[no_mangle]
-pub extern "C" fn tpl_check(sheet: &[u8], filling: &[u8]) -> i64
-    ensures { λ r. ⌜ r ≡ returnedNumber (checking (now (sheet .entry)) (now (filling .entry))) ⌝ }
+pub extern "C" fn tpl_check(sheet: &[u8], filling: &[u8], why: &mut [u64; 5]) -> i64
+    ensures { λ r. ⌜ Explained (checking (now (sheet .entry)) (now (filling .entry))) (now (why .entry)) r (now (why .exit)) ⌝ }
 {
-    c_sheet::check(sheet, filling)
+    c_sheet::check(sheet, filling, why)
 }
 
 // Spells one template under a filling, into `text`: of a pair the left one for side 0, the right one for side 1. Returns the text's

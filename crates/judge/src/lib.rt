@@ -1,26 +1,33 @@
-// Whether a substitution solves an accepted sheet: every equation's two words are the same, and every constraint holds.
+// What a substitution comes to on an accepted sheet: it solves it, since every equation's two words are the same and every constraint holds; or the first cause why
+// it does not.
 use fields::Substitution;
-use scan::WIDEST;
+use mismatch::Mismatch;
+use mismatch::compare_sides;
 use scan::wide;
 ghost use mathlib.Core.Path.{_≡_};
 ghost use Prim.Native.Nat.{_<_};
 ghost use lib.ListN.{length};
 ghost use Rattle.model.specs.Sheet.{Accepted, sheetOf, equation, constraint};
 ghost use Rattle.model.specs.Word.{weight};
+ghost use Rattle.model.specs.Mismatch.{judged};
 ghost use Rattle.model.specs.Word as model;
 ghost use Rattle.fields.specs.Memory.{Held, meaning};
 ghost use Rattle.judge.specs.Asks.{many, holdsAt, holdFrom};
+ghost use Rattle.judge.specs.Answer.{meant};
 
-// Whether both templates of equation p spell the same word.
+// What a substitution comes to: it solves the sheet; or the first equation whose two words differ; or the first constraint that does not hold.
+pub enum Judgement {
+    Solution,
+    Differs(usize, Mismatch),
+    Breaks(usize),
+}
+
+// Whether both templates of equation p spell the same word: nothing is left over.
 fn equation_holds(sheet: &[u8], p: usize, g: Substitution) -> bool
     requires { ⌜ Held (now sheet) g × (p < length (sheetOf (now sheet) .equations)) ⌝ }
     ensures { λ r. ⌜ r ≡ model.equationHolds (sheetOf (now (sheet .entry))) (meaning (now (sheet .entry)) g) (equation (sheetOf (now (sheet .entry))) p) ⌝ }
 {
-    let mut left = [0u8; WIDEST];
-    let m = words::spell(&mut left, parts::template(sheet, p, 0), g);
-    let mut right = [0u8; WIDEST];
-    let n = words::spell(&mut right, parts::template(sheet, p, 1), g);
-    words::same(&left[..m], &right[..n])
+    compare_sides(sheet, p, g).rest == 0
 }
 
 // The sum of coefficient × length of constraint r.
@@ -76,8 +83,8 @@ fn holds(sheet: &[u8], kind: Kind, i: usize, g: Substitution) -> bool
     }
 }
 
-// Whether all of a kind hold.
-fn all_hold(sheet: &[u8], kind: Kind, g: Substitution) -> bool
+// How many of a kind hold before the first that does not: all of them if there is none.
+fn hold(sheet: &[u8], kind: Kind, g: Substitution) -> usize
     requires { ⌜ Held (now sheet) g ⌝ }
     ensures { λ r. ⌜ r ≡ holdFrom kind (sheetOf (now (sheet .entry))) (meaning (now (sheet .entry)) g) 0 ⌝ }
 {
@@ -85,11 +92,27 @@ fn all_hold(sheet: &[u8], kind: Kind, g: Substitution) -> bool
     let mut i: usize = 0;
     while i < n {
         if !holds(sheet, kind, i, g) {
-            return false;
+            return i;
         }
         i += 1;
     }
-    true
+    i
+}
+
+// What the substitution comes to.
+pub fn judge(sheet: &[u8], g: Substitution) -> Judgement
+    requires { ⌜ Held (now sheet) g ⌝ }
+    ensures { λ r. ⌜ meant r ≡ judged (sheetOf (now (sheet .entry))) (meaning (now (sheet .entry)) g) ⌝ }
+{
+    let p = hold(sheet, Kind::Equations, g);
+    if p < count(sheet, Kind::Equations) {
+        return Judgement::Differs(p, compare_sides(sheet, p, g));
+    }
+    let r = hold(sheet, Kind::Constraints, g);
+    if r < count(sheet, Kind::Constraints) {
+        return Judgement::Breaks(r);
+    }
+    Judgement::Solution
 }
 
 // Whether the substitution solves the sheet.
@@ -97,8 +120,9 @@ pub fn solves(sheet: &[u8], g: Substitution) -> bool
     requires { ⌜ Held (now sheet) g ⌝ }
     ensures { λ r. ⌜ r ≡ model.solves (sheetOf (now (sheet .entry))) (meaning (now (sheet .entry)) g) ⌝ }
 {
-    if !all_hold(sheet, Kind::Equations, g) {
-        return false;
+    match judge(sheet, g) {
+        Judgement::Solution => true,
+        Judgement::Differs(_, _) => false,
+        Judgement::Breaks(_) => false,
     }
-    all_hold(sheet, Kind::Constraints, g)
 }

@@ -8,7 +8,7 @@ use lib.Dec.{leb, ltb}
 use lib.ListN.{length}
 use Rattle.model.specs.Lists.{startsWith, same, each, from, all}
 use Rattle.model.specs.Sheet.{Sheet, equation, row, times, sides, anEquation, aConstraint, walk, width, signed, opening, read, isAccepted, sheetIn}
-use Rattle.model.specs.Word.{Substitution, letterBytes, spell, weight, sameWord, equationHolds, constraintHolds, keeps, solves}
+use Rattle.model.specs.Word.{Substitution, letterBytes, spell, weight, sameLetter, sameWord, equationHolds, constraintHolds, keeps, solves}
 use Rattle.model.specs.Solvable.{allTexts, substitutions, everyLegal}
 use Rattle.model.proofs.Computed.{sheet}
 
@@ -96,5 +96,5 @@ abbrev pub passesTest : Example → Bool
 passesTest c = isAccepted (read (c .bytes)) && test (sheetIn (read (c .bytes))) (c .claim)
 
 pub tests-pass : all passesTest listed ≡ true
-unfolding startsWith row times sides anEquation aConstraint walk width signed opening read each from all allTexts substitutions legalTexts sameTexts same spell weight sameWord equationHolds constraintHolds keeps solves
+unfolding startsWith row times sides anEquation aConstraint walk width signed opening read each from all allTexts substitutions legalTexts sameTexts same spell weight sameLetter sameWord equationHolds constraintHolds keeps solves
 tests-pass = refl

@@ -6,9 +6,9 @@ use mathlib.Core.List.{List, [], _∷_, map}
 use mathlib.Core.Logic.{_⊎_, inl, inr}
 use Prim.Native.Nat.{ℕ}
 use lib.ListN.{length}
-use Rattle.model.specs.Lists.{startsWith, same, each, from, all, keep, All}
+use Rattle.model.specs.Lists.{startsWith, each, from, all, keep, All}
 use Rattle.model.specs.Sheet.{Sheet, row, times, sides, anEquation, aConstraint, walk, width, signed, opening, read, sheetIn}
-use Rattle.model.specs.Word.{Substitution, spell, Solves, weight, sameWord, equationHolds, constraintHolds, keeps, solves}
+use Rattle.model.specs.Word.{Substitution, spell, Solves, weight, sameLetter, sameWord, equationHolds, constraintHolds, keeps, solves}
 use Rattle.model.specs.Solvable.{allTexts, substitutions, everyLegal}
 use Rattle.model.specs.Order.{totalLength, fieldLetters, ranks, Earlier, IsFirst, lex, earlier, earliest, earliestOf, firstSolution}
 use Rattle.model.proofs.Computed.{P, sheet}
@@ -46,7 +46,7 @@ cases =
     ∷ []
 
 first-solutions : map (λ (c : Case). firstSolution (sheetIn (read (c .bytes)))) cases ≡ map (λ (c : Case). c .first) cases
-unfolding startsWith row times sides anEquation aConstraint walk width signed opening read each from all keep same spell weight sameWord equationHolds constraintHolds keeps solves allTexts substitutions totalLength fieldLetters ranks lex earliest firstSolution
+unfolding startsWith row times sides anEquation aConstraint walk width signed opening read each from all keep spell weight sameLetter sameWord equationHolds constraintHolds keeps solves allTexts substitutions totalLength fieldLetters ranks lex earliest firstSolution
 first-solutions = refl
 
 -- h does not come before g

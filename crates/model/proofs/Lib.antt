@@ -1,7 +1,9 @@
 pub mod Computed
+pub mod Differing
 pub mod Examples
 pub mod Lists
 pub mod Keeping
+pub mod Leading
 pub mod Steps
 pub mod Rows
 pub mod Rests
@@ -18,6 +20,8 @@ pub mod Places
 pub mod Seams
 pub mod Writing
 pub mod Words
+pub mod Mismatches
+pub mod Judged
 pub mod Values
 pub mod Solvable
 pub mod Order

@@ -10,7 +10,7 @@ use lib.Dec.{eqb}
 use lib.ListN.{length, getD, take, drop, drop-of-length-le, length-append, take-append-drop}
 use lib.Seq.{drop-cons, take-suc}
 use borrow.Author.Tests.{eqb-true, eqb-false, eq-eqb, ne-eqb}
-use Rattle.model.specs.Lists.{same, each, from, upTo, All, all, any}
+use Rattle.model.specs.Lists.{startsWith, same, each, from, upTo, All, all, any}
 
 pub never : {P : Type 0} → false ≡ true → P
 never e = let z : _≡_ {A = ℕ} 0 1 = cc in absurd (omega arith)
@@ -89,7 +89,7 @@ equal-same xs ys h = subst (λ zs. same xs zs ≡ true) h (itself xs)
     itself [] = refl
     itself (z ∷ zs) = and-join (eq-eqb z z refl) (itself zs)
 
--- Lists of other lengths differ; others are compared from index i on, one element at a time.
+-- Lists of other lengths differ; those of one length are the same where the one starts with the other.
 pub other-length : (xs ys : List ℕ) → (length xs ≡ length ys → ⊥) → same xs ys ≡ false
 unfolding same
 other-length [] [] h = absurd (h refl)
@@ -97,18 +97,12 @@ other-length [] (y ∷ ys) h = refl
 other-length (x ∷ xs) [] h = refl
 other-length (x ∷ xs) (y ∷ ys) h = and-false (eqb x y) (other-length xs ys (λ e. h (ap suc e)))
 
-module _ (xs ys : List ℕ) (i : ℕ) where
-  pub same-here : i < length xs → i < length ys → getD xs i 0 ≡ getD ys i 0 → same (drop i xs) (drop i ys) ≡ same (drop (i + 1) xs) (drop (i + 1) ys)
-  unfolding same
-  same-here a b e = rw (add-one, drop-cons xs i 0, drop-cons ys i 0) (simp (eq-eqb _ _ e))
-
-  pub differs-here : i < length xs → i < length ys → (getD xs i 0 ≡ getD ys i 0 → ⊥) → same (drop i xs) (drop i ys) ≡ false
-  unfolding same
-  differs-here a b e = rw (drop-cons xs i 0, drop-cons ys i 0) (simp (ne-eqb _ _ e))
-
-  pub same-whole : length xs ≤ i → length ys ≤ i → same (drop i xs) (drop i ys) ≡ true
-  unfolding same
-  same-whole a b = rw (drop-of-length-le xs a, drop-of-length-le ys b)
+pub same-starts : (xs ys : List ℕ) → length xs ≡ length ys → same xs ys ≡ startsWith ys xs
+unfolding same startsWith
+same-starts [] [] h = refl
+same-starts [] (y ∷ ys) h = absurd (omega arith)
+same-starts (x ∷ xs) [] h = absurd (omega arith)
+same-starts (x ∷ xs) (y ∷ ys) h = ap (λ b. eqb x y && b) (same-starts xs ys (omega arith))
 
 module _ {A : Type 0} (P : A → Type 0) where
   pub append-out : (xs ys : List A) → All P (xs ++ ys) → All P xs × All P ys

@@ -2,6 +2,7 @@ pub mod Lists
 pub mod Sheet
 pub mod Range
 pub mod Word
+pub mod Mismatch
 pub mod Solvable
 pub mod Order
 pub mod Cells

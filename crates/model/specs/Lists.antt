@@ -56,6 +56,11 @@ unfoldable pub any : {A : Type 0} → (A → Bool) → List A → Bool
 any p [] = false
 any p (x ∷ xs) = p x || any p xs
 
+-- how many elements from the start pass a test
+unfoldable pub leading : {A : Type 0} → (A → Bool) → List A → ℕ
+leading p [] = 0
+leading p (x ∷ xs) = pick (p x) (suc (leading p xs)) 0
+
 -- the list if a test passes, else nothing; and the elements that pass a test
 abbrev pub when : {A : Type 0} → Bool → List A → List A
 when true xs = xs

@@ -1,12 +1,13 @@
 -- What a sheet asks: substitutions, the words that they spell, and which of them solve the sheet.
 use mathlib.Core.Path.{_≡_}
-use mathlib.Core.Bool.{Bool, true, _&&_}
+use mathlib.Core.Bool.{Bool, true, false, _&&_}
 use mathlib.Core.List.{List, [], _∷_, map}
 use Prim.Native.Nat.{ℕ, zero, suc, _<_, _≤_}
+use lib.Dec.{eqb}
 use lib.IntN.{ℤ, pos, _+ℤ_, _*ℤ_}
 use lib.ListN.{length, getD}
 use lib.Signed.{leZ, _≤ℤ_}
-use Rattle.model.specs.Lists.{same, each, All, all}
+use Rattle.model.specs.Lists.{each, All, all}
 use Rattle.model.specs.Sheet.{Symbol, letter, field, Equation, Constraint, Sheet, letterOf, coefficient}
 
 -- A substitution (document 01: a filling): the fields' texts in order, a text being a list of letter numbers.
@@ -40,9 +41,16 @@ spell g t = each t (symbolWord g)
 abbrev pub letterBytes : Sheet → List ℕ → List ℕ
 letterBytes s w = map (letterOf s) w
 
--- When two words of a sheet are the same text: when they are equal.
+-- When two letters of a sheet count as the same: when their numbers are equal. All that compares texts goes by this.
+unfoldable pub SameLetter : Sheet → ℕ → ℕ → Type 0
+SameLetter s a b = a ≡ b
+
+-- When two words of a sheet are the same text: when they are so letter by letter, up to the end of both.
 unfoldable pub SameWord : Sheet → List ℕ → List ℕ → Type 0
-SameWord s u w = u ≡ w
+SameWord s [] [] = Unit
+SameWord s [] (b ∷ w) = ⊥
+SameWord s (a ∷ u) [] = ⊥
+SameWord s (a ∷ u) (b ∷ w) = SameLetter s a b × SameWord s u w
 
 -- "both templates spell the same text"
 abbrev pub EquationHolds : Sheet → Substitution → Equation → Type 0
@@ -71,8 +79,14 @@ pub record Solves (s : Sheet) (g : Substitution) : Type 0 where
   pub keeps-all : Keeps s g
 
 -- The same as tests. `Words.antt` shows that they decide it.
+unfoldable pub sameLetter : Sheet → ℕ → ℕ → Bool
+sameLetter s a b = eqb a b
+
 unfoldable pub sameWord : Sheet → List ℕ → List ℕ → Bool
-sameWord s u w = same u w
+sameWord s [] [] = true
+sameWord s [] (b ∷ w) = false
+sameWord s (a ∷ u) [] = false
+sameWord s (a ∷ u) (b ∷ w) = sameLetter s a b && sameWord s u w
 
 unfoldable pub equationHolds : Sheet → Substitution → Equation → Bool
 equationHolds s g e = sameWord s (spell g (e .left)) (spell g (e .right))

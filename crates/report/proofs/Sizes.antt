@@ -17,7 +17,7 @@ use Rattle.model.proofs.Templates.{template-room}
 use Rattle.calls.proofs.Passed.{answered, filling-read}
 use Rattle.fields.specs.declared.Field.{Field}
 use Rattle.fields.specs.Memory.{meaning, Held}
-use Rattle.judge.proofs.Meaning.{short-at}
+use Rattle.words.proofs.Meaning.{short-at}
 
 -- the size of a line
 pub line-size : (s : Sheet) (name : List ℕ) (n : ℕ) (t : List ℕ) → length (labelledLine name n (letterBytes s t)) ≡ length name + length t + 3

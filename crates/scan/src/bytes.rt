@@ -3,6 +3,7 @@ ghost use mathlib.Core.Path.{_≡_};
 ghost use Prim.Native.Nat.{_+_, _<_, _≤_};
 ghost use lib.ListN.{length, take, drop};
 ghost use Rattle.model.specs.Lists.{between, startsWith, span};
+ghost use Rattle.model.specs.Lists as lists;
 ghost use Rattle.model.specs.Sheet.{signed8, signed16};
 
 // Whether s starts with these bytes.
@@ -20,6 +21,16 @@ pub fn starts_with(s: &[u8], mark: &[u8]) -> bool
         i += 1;
     }
     true
+}
+
+// Whether two byte strings are the same.
+pub fn same(left: &[u8], right: &[u8]) -> bool
+    ensures { λ r. ⌜ r ≡ lists.same (now (left .entry)) (now (right .entry)) ⌝ }
+{
+    if left.len() != right.len() {
+        return false;
+    }
+    starts_with(left, right)
 }
 
 // The offset of the first x at or after an offset, or the length where there is none.

@@ -3,6 +3,7 @@ mod bytes;
 
 pub use bytes::find;
 pub use bytes::in_range;
+pub use bytes::same;
 pub use bytes::signed_byte;
 pub use bytes::signed_pair;
 pub use bytes::starts_with;

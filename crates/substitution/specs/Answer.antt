@@ -1,8 +1,8 @@
 -- What the enums of this crate say in document 01's numbers.
-use mathlib.Core.Bool.{true, false}
 use mathlib.Core.List.{[], _∷_}
 use Prim.Native.Nat.{ℕ}
-use Rattle.calls.specs.Calls.{Answer, refused, finished, verdict}
+use Rattle.model.specs.Mismatch.{solution, differs, breaks}
+use Rattle.calls.specs.Calls.{Answer, refused, finished, judgementValues}
 use Rattle.sheet.specs.Answer as sheet
 use Rattle.fields.specs.Answer as fields
 use Rattle.substitution.specs.declared.Refusal.{Refusal}
@@ -20,10 +20,11 @@ numberOf Equation = 24
 numberOf Side = 25
 numberOf Room = 26
 
--- "The answer is clash or no clash"
+-- "The answer is clash or no clash", and document 02's No. 5: the pair that differs, with what is left over, or the rule broken
 abbrev pub checked : Checking → Answer
-checked checking.Solves = verdict true
-checked checking.DoesNot = verdict false
+checked checking.Solves = finished (judgementValues solution)
+checked (checking.Differs p m) = finished (judgementValues (differs p (m .agreeing) (m .side) (m .rest)))
+checked (checking.Breaks r) = finished (judgementValues (breaks r))
 checked (checking.Refused f) = refused (numberOf f)
 
 -- "the answer is its length"

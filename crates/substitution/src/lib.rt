@@ -1,5 +1,7 @@
 // What a sheet asks of a substitution: whether it solves the sheet, and what a template spells under it.
+use judge::Judgement;
 pub use judge::solves;
+use mismatch::Mismatch;
 use scan::WIDEST;
 use scan::wide;
 ghost use mathlib.Core.Path.{_≡_};
@@ -7,8 +9,9 @@ ghost use Prim.Native.Nat.{_<_};
 ghost use lib.ListN.{length};
 ghost use Rattle.model.specs.Sheet.{Accepted, sheetOf};
 ghost use Rattle.model.specs.Filling.{filling};
-ghost use Rattle.calls.specs.Calls.{ofFilling, verdict, checking, spelling, spellingOf, Writes};
-ghost use Rattle.model.specs.Word as model;
+ghost use Rattle.model.specs.Mismatch.{judged};
+ghost use Rattle.calls.specs.Calls.{finished, ofFilling, judgementValues, checking, spelling, spellingOf, Writes};
+ghost use Rattle.judge.specs.Answer.{meant};
 ghost use Rattle.substitution.specs.Answer.{numberOf, checked, spelled};
 
 // What checking and spelling refuse, by document 01's numbers: what reading refuses, 20 to 23 of a filling, and 24 to 26.
@@ -20,10 +23,12 @@ pub enum Refusal {
     Room,
 }
 
-// The answer of checking (document 01: clash, or no clash).
+// The answer of checking (document 01: clash, or no clash): it solves the sheet; or the first equation whose two words differ, with what is left over; or the
+// first constraint that does not hold.
 pub enum Checking {
     Solves,
-    DoesNot,
+    Differs(usize, Mismatch),
+    Breaks(usize),
     Refused(Refusal),
 }
 
@@ -46,24 +51,32 @@ pub fn number(refusal: Refusal) -> u8
     }
 }
 
+// What a substitution comes to, as an answer.
+fn told(judgement: Judgement) -> Checking
+    ensures { λ r. ⌜ checked r ≡ finished (judgementValues (meant judgement)) ⌝ }
+{
+    match judgement {
+        Judgement::Solution => Checking::Solves,
+        Judgement::Differs(equation, mismatch) => Checking::Differs(equation, mismatch),
+        Judgement::Breaks(constraint) => Checking::Breaks(constraint),
+    }
+}
+
 // Checks a filling of an accepted sheet.
 fn check_filling(sheet: &[u8], bytes: &[u8]) -> Checking
     requires { ⌜ Accepted (now sheet) ⌝ }
-    ensures { λ r. ⌜ checked r ≡ ofFilling (filling (sheetOf (now (sheet .entry))) (now (bytes .entry))) (λ g. verdict (model.solves (sheetOf (now (sheet .entry))) g)) ⌝ }
+    ensures { λ r. ⌜ checked r ≡ ofFilling (filling (sheetOf (now (sheet .entry))) (now (bytes .entry))) (λ g. finished (judgementValues (judged (sheetOf (now (sheet .entry))) g))) ⌝ }
 {
     match fields::admit(sheet, bytes) {
         fields::Admission::Refused(fault) => Checking::Refused(Refusal::Filling(fault)),
         fields::Admission::Admitted => {
             let g = fields::load(sheet, bytes);
-            if solves(sheet, g) {
-                return Checking::Solves;
-            }
-            Checking::DoesNot
+            told(judge::judge(sheet, g))
         }
     }
 }
 
-// Checks a filling: whether it solves the sheet, or the first refusal in document 01's order. Any bytes are allowed.
+// Checks a filling: whether it solves the sheet, and if not, the first cause; or the first refusal in document 01's order. Any bytes are allowed.
 pub fn check(sheet: &[u8], bytes: &[u8]) -> Checking
     ensures { λ r. ⌜ checked r ≡ checking (now (sheet .entry)) (now (bytes .entry)) ⌝ }
 {

@@ -120,7 +120,7 @@ fn read_line(marks: &mut [u8], tally: Tally, line: &[u8]) -> Lines
     requires { ⌜ (0 < length (now marks)) × (length (now line) ≤ 65536) ⌝ }
     ensures { λ r. ⌜ ReadLine (now (marks .entry)) tally (now (line .entry)) r (now (marks .exit)) ⌝ }
 {
-    if words::same(line, b"s SATISFIABLE") {
+    if scan::same(line, b"s SATISFIABLE") {
         return Lines::Known(Tally {
             status: true,
             again: either(tally.again, tally.status),

@@ -1,10 +1,11 @@
 // Runs the vectors of standard input through `substitution::check` and `substitution::spell` and
-// prints for each its name, and the answer or document 01's number of the refusal; for a clash the
-// whole of `report::write`, and a line where its filling, loaded and stored again, differs. A line of
-// the file stdin is a vector's name, a colon, the sheet, a semicolon and the filling, their bytes in
-// hexadecimal with spaces between their parts. For a spelling there follow a semicolon, the pair and
-// the side, eight bytes each, and the length of the lent buffer, one byte. A line with no colon is a
-// heading and is printed as it is. The file stdout has document 01's answers.
+// prints for each its name, and the answer or document 01's number of the refusal; where there is no
+// clash the cause, and for a clash the whole of `report::write`, and a line where its filling, loaded
+// and stored again, differs. A line of the file stdin is a vector's name, a colon, the sheet, a
+// semicolon and the filling, their bytes in hexadecimal with spaces between their parts. For a
+// spelling there follow a semicolon, the pair and the side, eight bytes each, and the length of the
+// lent buffer, one byte. A line with no colon is a heading and is printed as it is. The file stdout
+// has the answers of documents 01 and 02.
 use fields::MOST_BYTES;
 use hex::after;
 use hex::decode;
@@ -12,6 +13,7 @@ use hex::find;
 use hex::signed;
 use libc::STDIN_FILENO;
 use libc::STDOUT_FILENO;
+use mismatch::Mismatch;
 use report::MOST_REPORT;
 use scan::wide;
 use substitution::Checking;
@@ -66,15 +68,34 @@ fn show_vector(text: &[u8]) {
     }
 }
 
-// Prints what checking a filling answers, and the report of a clash.
+// Prints words and a number.
+fn show_number(words: &[u8], n: usize) {
+    io::write_all(STDOUT_FILENO, words);
+    io::print_decimal(STDOUT_FILENO, n as u64);
+}
+
+// Prints a pair whose texts differ: how many letters agree, and the side and the length of the rest.
+fn show_mismatch(equation: usize, found: Mismatch) {
+    show_number(b": no clash, pair ", equation);
+    show_number(b", agree ", found.agreeing);
+    show_number(b", side ", found.side);
+    show_number(b", rest ", found.rest);
+    io::write_all(STDOUT_FILENO, b"\n");
+}
+
+// Prints what checking a filling answers: the report of a clash, or the cause why there is none.
 fn show_check(sheet: &[u8], filling: &[u8]) {
     let checking = substitution::check(sheet, filling);
     match checking {
         Checking::Solves => {
             show_report(sheet, filling);
         }
-        Checking::DoesNot => {
-            io::write_all(STDOUT_FILENO, b": no clash\n");
+        Checking::Differs(equation, found) => {
+            show_mismatch(equation, found);
+        }
+        Checking::Breaks(constraint) => {
+            show_number(b": no clash, rule ", constraint);
+            io::write_all(STDOUT_FILENO, b"\n");
         }
         Checking::Refused(refusal) => {
             show_refused(substitution::number(refusal));
@@ -101,7 +122,7 @@ fn show_difference(sheet: &[u8], filling: &[u8])
     let mut buf = [0u8; MOST_BYTES];
     let fields = wide(parts::four_counts(sheet).fields);
     fields::store(&mut buf, fields::load(sheet, filling), fields);
-    if !words::same(&buf[..filling.len()], filling) {
+    if !scan::same(&buf[..filling.len()], filling) {
         io::write_all(STDOUT_FILENO, b"stored again, the filling differs\n");
     }
 }

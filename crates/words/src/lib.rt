@@ -1,4 +1,4 @@
-// Words: the word that a template spells under a substitution; whether two words are the same; words as letter bytes. Bytes are written
+// Words: the word that a template spells under a substitution; two words compared, and what is left over; words as letter bytes. Bytes are written
 // piece by piece into a lent buffer, each piece at the offset past the one before it.
 use fields::Substitution;
 use scan::FIRST_FIELD;
@@ -8,10 +8,11 @@ ghost use mathlib.Core.List.{map};
 ghost use Prim.Native.Nat.{_+_, _<_, _≤_};
 ghost use lib.ListN.{length};
 ghost use Rattle.model.specs.Lists.{All, Puts};
-ghost use Rattle.model.specs.Lists as lists;
-ghost use Rattle.model.specs.Sheet.{symbolOf, Accepted, sheetOf};
+ghost use Rattle.model.specs.Sheet.{Sheet, symbolOf, Accepted, sheetOf};
 ghost use Rattle.model.specs.Word.{symbolWord, letterBytes};
 ghost use Rattle.model.specs.Word as model;
+ghost use Rattle.model.specs.Mismatch.{restWord};
+ghost use Rattle.model.specs.Mismatch as mismatch;
 ghost use Rattle.fields.specs.Memory.{textsOf, Whole};
 
 // Copies a piece to an offset of the buffer. Returns the offset past it.
@@ -54,21 +55,32 @@ pub fn spell(word: &mut [u8], template: &[u8], g: Substitution) -> usize
     at
 }
 
-// Whether two words are the same.
-pub fn same(left: &[u8], right: &[u8]) -> bool
-    ensures { λ r. ⌜ r ≡ lists.same (now (left .entry)) (now (right .entry)) ⌝ }
+// How many letters of two words agree from the start. Letters count as the same alike on every sheet.
+pub fn agreeing(left: &[u8], right: &[u8]) -> usize
+    ensures { λ r. ⌜ (r ≤ length (now (left .entry))) × (r ≤ length (now (right .entry))) × ((s : Sheet) → r ≡ mismatch.agreeing s (now (left .entry)) (now (right .entry))) ⌝ }
 {
-    if left.len() != right.len() {
-        return false;
-    }
     let mut i: usize = 0;
     while i < left.len() {
+        if right.len() <= i {
+            return i;
+        }
         if left[i] != right[i] {
-            return false;
+            return i;
         }
         i += 1;
     }
-    true
+    i
+}
+
+// What is left over of two words: the caller's own left word from the first letter on that does not agree, unless it is used up; then the right one.
+pub fn rest<'a>(left: &'a [u8], right: &'a [u8]) -> &'a [u8]
+    ensures { λ r. ⌜ ((s : Sheet) → now r ≡ restWord s (now (left .entry)) (now (right .entry))) ⌝ }
+{
+    let n = agreeing(left, right);
+    if n < left.len() {
+        return &left[n..];
+    }
+    &right[n..]
 }
 
 // A word as the sheet's letter bytes, at an offset of the buffer. Returns the offset past it.

@@ -14,7 +14,7 @@ use Rattle.model.proofs.Seams.{Written}
 use Rattle.model.proofs.Pieces.{loop-none, loop-room, loop-next, loop-done}
 use Rattle.fields.specs.declared.Field.{Field}
 use Rattle.fields.specs.Memory.{textOf, field, Whole, meaning}
-use Rattle.judge.proofs.Meaning.{text-at, field-whole}
+use Rattle.words.proofs.Meaning.{text-at, field-whole}
 use Rattle.report.proofs.Sizes.{line-room}
 use Rattle.report.proofs.field_lines.Statement.{statement}
 use Rattle.report.proofs.field_lines.Tie as tie

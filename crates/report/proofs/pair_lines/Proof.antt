@@ -14,7 +14,7 @@ use Rattle.model.proofs.Pieces.{loop-none, loop-room, loop-next, loop-done}
 use Rattle.model.proofs.Templates.{template-in}
 use Rattle.model.proofs.Words.{spell-over}
 use Rattle.fields.specs.Memory.{textsOf, meaning}
-use Rattle.judge.proofs.Meaning.{word-is, can-spell}
+use Rattle.words.proofs.Meaning.{word-is, can-spell}
 use Rattle.report.proofs.Sizes.{line-room}
 use Rattle.report.proofs.pair_lines.Statement.{statement}
 use Rattle.report.proofs.pair_lines.Tie as tie

@@ -25,24 +25,22 @@ load-requires c κs =
     let at-admit = c .before .before .admit in
     (at-start .pre, sym (at-admit .ensures) ∙ ap admitted (c .enum-told .given .1))
 
-solves-requires : tie.Need-solves-requires
-solves-requires c κs = c .load .ensures .0
+judge-requires : tie.Need-judge-requires
+judge-requires c κs = c .load .ensures .0
+
+told-requires : tie.Need-told-requires
+told-requires c κs = search needs
 
 returns : tie.Need-returns
 returns c =
-    let at-load = c .before .before .load in
-    rw (at-load .ensures .1, ← c .before .solves .ensures, c .if1 .taken)
-
-returns-2 : tie.Need-returns-2
-returns-2 c =
     let at-start = c .before .before .before .before .before .before in
     let at-admit = c .before .before .before .admit in
     sym (filling-refused (filling (sheetOf (at-start .args .sheet .now)) (at-start .args .bytes .now)) (numberOf (c .before .fault .given .0 .0)) _ (sym (at-admit .ensures) ∙ ap admitted (c .before .fault .given .1)))
 
-returns-3 : tie.Need-returns-3
-returns-3 c =
+returns-2 : tie.Need-returns-2
+returns-2 c =
     let at-load = c .before .before .load in
-    rw (at-load .ensures .1, ← c .before .solves .ensures, c .if1 .left)
+    rw (at-load .ensures .1, ← c .before .judge .ensures) (c .told .ensures)
 
 pub check-filling-spec : {M : Type 1} → statement M
 check-filling-spec =
@@ -52,7 +50,7 @@ check-filling-spec =
     enum-known-fault
     enum-told
     load-requires
-    solves-requires
+    judge-requires
+    told-requires
     returns
-    returns-2
-    returns-3)
+    returns-2)

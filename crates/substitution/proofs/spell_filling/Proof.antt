@@ -15,7 +15,7 @@ use Rattle.model.proofs.Words.{spell-over}
 use Rattle.calls.proofs.Operations.{spelling-filling, spelling-room, spelling-text, leaves-all, leaves-text}
 use Rattle.fields.specs.Answer.{admitted, numberOf}
 use Rattle.fields.specs.Memory.{textsOf, meaning}
-use Rattle.judge.proofs.Meaning.{word-is, can-spell}
+use Rattle.words.proofs.Meaning.{word-is, can-spell}
 use Rattle.substitution.proofs.spell_filling.Statement.{statement}
 use Rattle.substitution.proofs.spell_filling.Tie as tie
 

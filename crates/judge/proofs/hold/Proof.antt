@@ -1,18 +1,18 @@
--- `judge::all_hold` meets its contract. The loop's invariant: those from i on decide. Assumes nothing.
-use mathlib.Core.Path.{_≡_, refl, sym, _∙_}
-use Prim.Native.Nat.{_-_, _≤_}
+-- `judge::hold` meets its contract. The loop's invariant: all before i hold, and those from i on decide how many more do. Assumes nothing.
+use mathlib.Core.Path.{_≡_, sym, _∙_}
+use Prim.Native.Nat.{_+_, _-_, _≤_}
 use native.Mathlib.Omega.{arith}
 use borrow.Author.Tests.{not-true, not-false}
 use Rattle.model.specs.Sheet.{sheetOf}
 use Rattle.fields.specs.Memory.{meaning}
 use Rattle.judge.specs.Asks.{holdFrom}
 use Rattle.judge.proofs.Asks.{from-fails, from-next, from-whole}
-use Rattle.judge.proofs.all_hold.Statement.{statement}
-use Rattle.judge.proofs.all_hold.Tie as tie
+use Rattle.judge.proofs.hold.Statement.{statement}
+use Rattle.judge.proofs.hold.Tie as tie
 
 abbrev Inv-loop : tie.InvT-loop
 Inv-loop sheet kind g n i₀ i =
-    (i ≤ n) × (holdFrom kind (sheetOf sheet) (meaning sheet g) 0 ≡ holdFrom kind (sheetOf sheet) (meaning sheet g) i)
+    (i ≤ n) × (holdFrom kind (sheetOf sheet) (meaning sheet g) 0 ≡ i + holdFrom kind (sheetOf sheet) (meaning sheet g) i)
 
 abbrev μ-loop : tie.MeasureT-loop
 μ-loop sheet kind g n i₀ i = n - i
@@ -21,7 +21,7 @@ count-requires : tie.Need-count-requires Inv-loop μ-loop
 count-requires c κs = c .before .pre .accepted
 
 loop-holds : tie.Need-loop-holds Inv-loop μ-loop
-loop-holds c = (omega arith, refl)
+loop-holds c = (omega arith, omega arith)
 
 holds-requires : tie.Need-holds-requires Inv-loop μ-loop
 holds-requires c κs =
@@ -34,7 +34,8 @@ returns c =
     let at-count = c .before .before .before .before .count in
     let l = c .before .before .before .loop in
     let a = at-start .args in
-    sym (l .inv .1 ∙ from-fails (sheetOf (a .sheet .now)) (meaning (a .sheet .now) (a .g)) (l .i) (a .kind) (omega (arith, at-count .ensures)) (sym (c .before .holds .ensures) ∙ not-true _ (c .if1 .taken)))
+    let none = from-fails (sheetOf (a .sheet .now)) (meaning (a .sheet .now) (a .g)) (l .i) (a .kind) (omega (arith, at-count .ensures)) (sym (c .before .holds .ensures) ∙ not-true _ (c .if1 .taken)) in
+    omega arith
 
 add-i : tie.Need-add-i Inv-loop μ-loop
 add-i c = omega arith
@@ -48,17 +49,19 @@ loop-again c =
     let at-count = c .before .before .before .before .count in
     let l = c .before .before .before .loop in
     let a = at-start .args in
-    (omega arith, l .inv .1 ∙ from-next (sheetOf (a .sheet .now)) (meaning (a .sheet .now) (a .g)) (l .i) (a .kind) (omega (arith, at-count .ensures)) (sym (c .before .holds .ensures) ∙ not-false _ (c .if1 .left)))
+    let more = from-next (sheetOf (a .sheet .now)) (meaning (a .sheet .now) (a .g)) (l .i) (a .kind) (omega (arith, at-count .ensures)) (sym (c .before .holds .ensures) ∙ not-false _ (c .if1 .left)) in
+    (omega arith, omega arith)
 
 returns-2 : tie.Need-returns-2 Inv-loop μ-loop
 returns-2 c =
     let at-start = c .before .before .before .before in
     let l = c .before .loop in
     let a = at-start .args in
-    sym (l .inv .1 ∙ from-whole (sheetOf (a .sheet .now)) (meaning (a .sheet .now) (a .g)) (l .i) (a .kind) (omega (arith, c .before .before .count .ensures)))
+    let none = from-whole (sheetOf (a .sheet .now)) (meaning (a .sheet .now) (a .g)) (l .i) (a .kind) (omega (arith, c .before .before .count .ensures)) in
+    omega arith
 
-pub all-hold-spec : {M : Type 1} → statement M
-all-hold-spec =
+pub hold-spec : {M : Type 1} → statement M
+hold-spec =
     tie.close
     (tie.spec
     Inv-loop

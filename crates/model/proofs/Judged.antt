@@ -1,0 +1,123 @@
+-- What a substitution comes to (specs/Mismatch): a solution exactly when the tests of specs/Word pass; and by its cases, as code goes through them and as
+-- document 02's No. 5 tells them. Assumes nothing.
+use mathlib.Core.Path.{_≡_, refl, sym, ap, ap₂, subst, _∙_}
+use mathlib.Core.Bool.{true, false, _&&_}
+use mathlib.Core.List.{[]}
+use Prim.Native.Nat.{ℕ, _<_, _≤_}
+use native.Mathlib.Omega.{arith}
+use lib.Dec.{ltb}
+use lib.ListN.{length}
+use borrow.Author.Tests.{ltb-true, ltb-false, lt-ltb, le-ltb}
+use Rattle.model.specs.Sheet.{Sheet, equation}
+use Rattle.model.specs.Word.{Substitution, spell, equationHolds, constraintHolds, solves}
+use Rattle.model.specs.Mismatch.{agreeing, restSide, restWord, solution, differs, breaks, isSolution, difference, firstPair, firstRule, judged}
+use Rattle.model.proofs.Lists.{by-test}
+use Rattle.model.proofs.Leading.{all-lead, not-all-lead}
+use Rattle.model.proofs.Words.{solves-parts}
+
+same-numbers : {p n side rest p′ n′ side′ rest′ : ℕ} → differs p n side rest ≡ differs p′ n′ side′ rest′ → (p ≡ p′) × (n ≡ n′) × (side ≡ side′) × (rest ≡ rest′)
+same-numbers z = (cc, cc, cc, cc)
+
+module _ (s : Sheet) (g : Substitution) where
+  pub judged-differs : firstPair s g < length (s .equations)
+      → let p = firstPair s g in judged s g ≡ difference s p (spell g (equation s p .left)) (spell g (equation s p .right))
+  unfolding judged
+  judged-differs h = rw (lt-ltb (firstPair s g) (length (s .equations)) h)
+
+  module _ (h : length (s .equations) ≤ firstPair s g) where
+    pub judged-breaks : firstRule s g < length (s .constraints) → judged s g ≡ breaks (firstRule s g)
+    unfolding judged
+    judged-breaks k = rw (le-ltb (firstPair s g) (length (s .equations)) h, lt-ltb (firstRule s g) (length (s .constraints)) k)
+
+    pub judged-solution : length (s .constraints) ≤ firstRule s g → judged s g ≡ solution
+    unfolding judged
+    judged-solution k = rw (le-ltb (firstPair s g) (length (s .equations)) h, le-ltb (firstRule s g) (length (s .constraints)) k)
+
+  pub solves-judged : solves s g ≡ isSolution (judged s g)
+  solves-judged = solves-parts s g ∙ by-test (ltb (firstPair s g) (length (s .equations)))
+      (λ t.
+      let h = ltb-true (firstPair s g) (length (s .equations)) t in
+      rw (not-all-lead (equationHolds s g) (s .equations) h) (sym (ap isSolution (judged-differs h))))
+      (λ t.
+      let h = ltb-false (firstPair s g) (length (s .equations)) t in
+      rw (all-lead (equationHolds s g) (s .equations) h) (by-test (ltb (firstRule s g) (length (s .constraints)))
+      (λ q.
+      let k = ltb-true (firstRule s g) (length (s .constraints)) q in
+      not-all-lead (constraintHolds s g) (s .constraints) k ∙ sym (ap isSolution (judged-breaks h k)))
+      (λ q.
+      let k = ltb-false (firstRule s g) (length (s .constraints)) q in
+      all-lead (constraintHolds s g) (s .constraints) k ∙ sym (ap isSolution (judged-solution h k)))))
+
+  -- what is told of a pair, and of a rule: the first that differs, and else the first broken
+  pub record PairTold (p n side rest : ℕ) : Type 0 where
+    pub is-first : firstPair s g ≡ p
+    pub is-pair : p < length (s .equations)
+    pub agree : n ≡ agreeing s (spell g (equation s p .left)) (spell g (equation s p .right))
+    pub on-side : side ≡ restSide s (spell g (equation s p .left)) (spell g (equation s p .right))
+    pub left-over : rest ≡ length (restWord s (spell g (equation s p .left)) (spell g (equation s p .right)))
+
+  pub record RuleTold (r : ℕ) : Type 0 where
+    pub pairs-hold : length (s .equations) ≤ firstPair s g
+    pub is-first : firstRule s g ≡ r
+    pub is-rule : r < length (s .constraints)
+
+  module _ (p n side rest : ℕ) where
+    pub told-pair : PairTold p n side rest → judged s g ≡ differs p n side rest
+    told-pair t =
+        let e = t .is-first in
+        judged-differs (omega (arith, e, t .is-pair))
+        ∙ ap (λ k. difference s k (spell g (equation s k .left)) (spell g (equation s k .right))) e
+        ∙ sym (ap₂ (λ a k. differs p a k (length (restWord s (spell g (equation s p .left)) (spell g (equation s p .right))))) (t .agree) (t .on-side))
+        ∙ sym (ap (differs p n side) (t .left-over))
+
+    pub pair-told : judged s g ≡ differs p n side rest → PairTold p n side rest
+    pair-told e = by-test (ltb (firstPair s g) (length (s .equations)))
+        (λ t.
+        let h = ltb-true (firstPair s g) (length (s .equations)) t in
+        same-pair h (sym (judged-differs h) ∙ e))
+        (λ t.
+        let h = ltb-false (firstPair s g) (length (s .equations)) t in
+        by-test (ltb (firstRule s g) (length (s .constraints)))
+        (λ q. let z = sym e ∙ judged-breaks h (ltb-true (firstRule s g) (length (s .constraints)) q) in other z)
+        (λ q. let z = sym e ∙ judged-solution h (ltb-false (firstRule s g) (length (s .constraints)) q) in another z))
+      where
+        other : {r : ℕ} → differs p n side rest ≡ breaks r → PairTold p n side rest
+        other z = let k : _≡_ {A = ℕ} 0 1 = cc in absurd (omega arith)
+
+        another : differs p n side rest ≡ solution → PairTold p n side rest
+        another z = let k : _≡_ {A = ℕ} 0 1 = cc in absurd (omega arith)
+
+        same-pair : firstPair s g < length (s .equations)
+            → difference s (firstPair s g) (spell g (equation s (firstPair s g) .left)) (spell g (equation s (firstPair s g) .right)) ≡ differs p n side rest → PairTold p n side rest
+        same-pair h z =
+            let q = same-numbers z in
+            record {
+              is-first = q .0;
+              is-pair = subst (λ k. k < length (s .equations)) (q .0) h;
+              agree = sym (q .1) ∙ ap (λ k. agreeing s (spell g (equation s k .left)) (spell g (equation s k .right))) (q .0);
+              on-side = sym (q .2) ∙ ap (λ k. restSide s (spell g (equation s k .left)) (spell g (equation s k .right))) (q .0);
+              left-over = sym (q .3) ∙ ap (λ k. length (restWord s (spell g (equation s k .left)) (spell g (equation s k .right)))) (q .0);
+            }
+
+  module _ (r : ℕ) where
+    pub told-rule : RuleTold r → judged s g ≡ breaks r
+    told-rule t = judged-breaks (t .pairs-hold) (omega (arith, t .is-first, t .is-rule)) ∙ ap breaks (t .is-first)
+
+    pub rule-told : judged s g ≡ breaks r → RuleTold r
+    rule-told e = by-test (ltb (firstPair s g) (length (s .equations)))
+        (λ t. let z = sym e ∙ judged-differs (ltb-true (firstPair s g) (length (s .equations)) t) in other z)
+        (λ t.
+        let h = ltb-false (firstPair s g) (length (s .equations)) t in
+        by-test (ltb (firstRule s g) (length (s .constraints)))
+        (λ q.
+        let k = ltb-true (firstRule s g) (length (s .constraints)) q in
+        let z = sym e ∙ judged-breaks h k in
+        let i : firstRule s g ≡ r = cc in
+        record { pairs-hold = h; is-first = i; is-rule = omega arith })
+        (λ q. let z = sym e ∙ judged-solution h (ltb-false (firstRule s g) (length (s .constraints)) q) in another z))
+      where
+        other : {p n side rest : ℕ} → breaks r ≡ differs p n side rest → RuleTold r
+        other z = let k : _≡_ {A = ℕ} 0 1 = cc in absurd (omega arith)
+
+        another : breaks r ≡ solution → RuleTold r
+        another z = let k : _≡_ {A = ℕ} 0 1 = cc in absurd (omega arith)
