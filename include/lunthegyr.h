@@ -64,7 +64,7 @@ enum tpl_refusal {
 };
 
 /* A sheet has a header of 9 bytes, letters, a limit for each field, pairs of templates, and rules. A template is a row of symbols: a letter's
- * number, or TPL_FIELD_SYMBOL plus a field's number. Letters, fields and pairs count from 0.
+ * number, or TPL_FIELD_SYMBOL plus a field's number. Letters, fields, pairs and rules count from 0.
  */
 #define TPL_SHEET_MOST 159   /* no accepted sheet has more bytes */
 #define TPL_LETTERS_MOST 8   /* and no fewer than 1 */
@@ -94,13 +94,29 @@ int64_t tpl_read(const uint8_t *sheet, size_t n, uint64_t counts[4]);
 #define TPL_FILLING_MOST 54 /* the bytes of TPL_FIELDS_MOST fields: a buffer that is always long enough for a filling */
 #define TPL_PAST_LENGTH 255
 
-/* Checks the m bytes of a filling. Returns TPL_CLASH: in every pair both templates spell the same text, and every rule holds. Or it returns
- * TPL_DOES_NOT_CLASH; or minus the number of the first refusal, which is one of tpl_read's, or else:
+/* The sides of a pair. */
+#define TPL_LEFT 0
+#define TPL_RIGHT 1
+
+/* Why a filling does not clash. tpl_check writes one of these to why[0], and to why[1] to why[4] the four numbers that stand beside it. */
+enum tpl_cause {
+    TPL_PAIR_DIFFERS = 1, /* the pair's number, how many letters agree, the side of the rest (TPL_LEFT or TPL_RIGHT), the rest's length */
+    TPL_RULE_BROKEN = 2   /* the rule's number, 0, 0, 0 */
+};
+#define TPL_WHY_NUMBERS 5 /* all numbers of why */
+
+/* Checks the m bytes of a filling. Returns TPL_CLASH: in every pair both templates spell the same text, and every rule holds. Then why is
+ * unchanged. Or it returns TPL_DOES_NOT_CLASH, with all five numbers of why written. They tell the first pair whose two texts differ, as
+ * TPL_PAIR_DIFFERS; or else, where in every pair the two are the same, the first rule that does not hold, as TPL_RULE_BROKEN.
+ * Of two texts that differ, letters agree from the start up to the first place where they part or one of them ends. The rest is what the left text
+ * has from there on, or, where the left text ends there, what the right one has; it is never empty. Of ab and acd 1 letter agrees, and the rest is b,
+ * on the left; of ab and abc 2 letters agree, and the rest is c, on the right.
+ * Or it returns minus the number of the first refusal, with why unchanged. The refusal is one of tpl_read's, or else:
  *   TPL_FILLING_SIZE
  * or else, of the first field that is at fault, in this order:
  *   TPL_LENGTH, TPL_LETTER_NUMBER, TPL_PAST_THE_LENGTH
  */
-int64_t tpl_check(const uint8_t *sheet, size_t n, const uint8_t *filling, size_t m);
+int64_t tpl_check(const uint8_t *sheet, size_t n, const uint8_t *filling, size_t m, uint64_t why[5]);
 #define TPL_CLASH 1
 #define TPL_DOES_NOT_CLASH 0 /* an answer; TPL_NO_CLASH is a refusal of tpl_reply */
 
@@ -112,8 +128,6 @@ int64_t tpl_check(const uint8_t *sheet, size_t n, const uint8_t *filling, size_t
  */
 int64_t tpl_spell(const uint8_t *sheet, size_t n, uint64_t pair, uint64_t side, const uint8_t *filling, size_t m, uint8_t *text,
                   size_t cap);
-#define TPL_LEFT 0
-#define TPL_RIGHT 1
 #define TPL_TEXT_MOST 24
 
 /* Searches a sheet for a filling that clashes. Returns TPL_CLASH if there is one, with the first such filling in the first TPL_FIELD_BYTES bytes per

@@ -1,5 +1,6 @@
-/* Reads a sheet from the file named on the command line, searches it, and prints the first clash, or that there is none. A file that starts with
- * TPB is a book: of this it prints which templates clash. Without a file it asks a small book of its own.
+/* Reads a sheet from the file named on the command line, searches it, and prints the first clash, or that there is none. With a text for each field
+ * after the file's name it prints whether these texts clash, and why if they do not. A file that starts with TPB is a book: of this it prints
+ * which templates clash. Without a file it asks a small book of its own.
  *
  * After `rt staticlib engine`, this line builds it from the repository's folder:
  *
@@ -11,12 +12,17 @@
  *     field 0=A
  *     pair 0=A
  *
+ * and `target/example examples/hold-up.tpl 1234 12 56 1234 12` prints
+ *
+ *     no clash: pair 0 differs; letters that agree: 7, left over on the left: 2
+ *
  * and `target/example` prints
  *
  *     templates 0 and 2 clash
  *
- * Where nothing clashes it prints `apart`, and for bytes that are neither a sheet nor a book `refused` and the refusal's number, which
- * include/lunthegyr.h explains. It ends with status 0 for an answer, 1 for a refusal and 2 for a file that cannot be read.
+ * Where nothing clashes it prints `apart`, and for bytes that are neither a sheet nor a book, or texts that the fields cannot have, `refused` and the
+ * refusal's number, which include/lunthegyr.h explains. It ends with status 0 for an answer, 1 for a refusal, and 2 for a file that cannot be read
+ * or more texts than any sheet has fields.
  */
 #include <stdio.h>
 #include <string.h>
@@ -113,15 +119,70 @@ static int ask_sheet(const uint8_t *sheet, size_t n) {
     return 0;
 }
 
+/* Gives a field a text. A letter that the sheet does not have becomes the letter count, which is no letter's number, and a text that is too long for
+ * any field gets a length above every limit, so that tpl_check refuses them.
+ */
+static void put(const uint8_t *letters, uint64_t letter_count, const char *text, uint8_t *field) {
+    size_t length = strlen(text);
+    memset(field, TPL_PAST_LENGTH, TPL_FIELD_BYTES);
+    field[0] = (uint8_t)(length <= TPL_FIELD_PLACES ? length : TPL_FIELD_PLACES + 1);
+    for (size_t place = 0; place < length && place < TPL_FIELD_PLACES; place++) {
+        uint8_t number = 0;
+        while (number < letter_count && letters[number] != (uint8_t)text[place]) {
+            number++;
+        }
+        field[1 + place] = number;
+    }
+}
+
+/* Prints why a filling does not clash, from the numbers that tpl_check has written. */
+static void print_why(const uint64_t why[TPL_WHY_NUMBERS]) {
+    switch (why[0]) {
+    case TPL_PAIR_DIFFERS:
+        printf("no clash: pair %d differs; letters that agree: %d, left over on the %s: %d\n", (int)why[1], (int)why[2],
+               why[3] == TPL_LEFT ? "left" : "right", (int)why[4]);
+        break;
+    case TPL_RULE_BROKEN:
+        printf("no clash: rule %d does not hold\n", (int)why[1]);
+        break;
+    }
+}
+
+/* Prints whether texts for the fields of a sheet clash, of which there are at most TPL_FIELDS_MOST. */
+static int check_texts(const uint8_t *sheet, size_t n, char **texts, size_t count) {
+    uint64_t counts[4], why[TPL_WHY_NUMBERS];
+    uint8_t filling[TPL_FILLING_MOST];
+    int64_t status = tpl_read(sheet, n, counts);
+    if (status < 0) {
+        return refused(status);
+    }
+    for (size_t f = 0; f < count; f++) {
+        put(sheet + 9, counts[0], texts[f], filling + TPL_FIELD_BYTES * f);
+    }
+    status = tpl_check(sheet, n, filling, TPL_FIELD_BYTES * count, why);
+    if (status < 0) {
+        return refused(status);
+    }
+    if (status == TPL_CLASH) {
+        puts("clash");
+    } else {
+        print_why(why);
+    }
+    return 0;
+}
+
 int main(int argc, char **argv) {
     uint8_t bytes[TPL_BOOK_MOST + 1]; /* one byte more than the largest book has, so that a longer file is refused */
     size_t n;
     if (argc == 1) {
         return ask_book(shop, sizeof shop);
     }
-    if (argc != 2 || !read_file(argv[1], bytes, sizeof bytes, &n)) {
-        fprintf(stderr, "usage: example [FILE], where FILE is a sheet or a book that can be read\n");
+    if (argc > 2 + TPL_FIELDS_MOST || !read_file(argv[1], bytes, sizeof bytes, &n)) {
+        fprintf(stderr, "usage: example [FILE [TEXT..]], where FILE is a sheet or a book that can be read, and each TEXT is for one field\n");
         return 2;
+    }
+    if (argc > 2) {
+        return check_texts(bytes, n, argv + 2, (size_t)argc - 2);
     }
     if (n >= 3 && memcmp(bytes, "TPB", 3) == 0) {
         return ask_book(bytes, n);

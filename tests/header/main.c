@@ -1,7 +1,7 @@
 /* include/lunthegyr.h against the static library: each call that takes a sheet on document 01's sheet P, and the one that takes a book on a small
- * book, with an answer and with refusals, which change nothing that was lent; the header's numbers against those of documents 01 and 02; and
- * buffers of the named sizes on the largest sheets of tests/clauses.d and tests/search.d, and on a largest book. To be run in the repository's
- * folder. */
+ * book, with an answer and with refusals, which change nothing that was lent; each cause why a filling does not clash, on a sheet with two pairs
+ * and two rules; the header's numbers against those of documents 01 and 02; and buffers of the named sizes on the largest sheets of
+ * tests/clauses.d and tests/search.d, and on a largest book. To be run in the repository's folder. */
 #include <stdio.h>
 #include <stdlib.h>
 #include <string.h>
@@ -46,7 +46,8 @@ static const struct { int constant, number; } numbers[] = {
     /* Two bytes for any two of 16. */
     { TPL_LIST_MOST, 2 * (16 * 15 / 2) },
     /* These are the engine's own. */
-    { TPL_CLASH, 1 }, { TPL_DOES_NOT_CLASH, 0 }, { TPL_APART, 0 }
+    { TPL_CLASH, 1 }, { TPL_DOES_NOT_CLASH, 0 }, { TPL_APART, 0 },
+    { TPL_PAIR_DIFFERS, 1 }, { TPL_RULE_BROKEN, 2 }, { TPL_WHY_NUMBERS, 5 }
 };
 
 static void naming(void) {
@@ -70,12 +71,67 @@ static void reading(void) {
     expect(is(counts, 1, 1, 1, 0), "P's counts are 1 1 1 0");
 }
 
+/* A cause's numbers, and one after them, which stays 96. */
+#define LENT (TPL_WHY_NUMBERS + 1)
+
+static int is_why(const uint64_t why[LENT], uint64_t cause, uint64_t number, uint64_t agreeing, uint64_t side, uint64_t rest) {
+    return why[0] == cause && why[1] == number && why[2] == agreeing && why[3] == side && why[4] == rest && why[5] == 96;
+}
+
 static void checking(void) {
-    expect(tpl_check(sheet, 15, is_a, 9) == TPL_CLASH, "X=A clashes in P");
-    expect(tpl_check(sheet, 15, is_empty, 9) == TPL_DOES_NOT_CLASH, "an empty X does not clash in P");
-    expect(tpl_check(sheet, 16, is_a, 9) == -TPL_BYTES_LEFT_OVER, "checking reads the sheet first");
-    expect(tpl_check(sheet, 15, is_a, 8) == -TPL_FILLING_SIZE, "eight bytes for one field are refused with 20");
-    expect(tpl_check(sheet, 15, too_long, 9) == -TPL_LENGTH, "a length of 2 for a limit of 1 is refused with 21");
+    uint64_t why[LENT] = { 91, 92, 93, 94, 95, 96 };
+    expect(tpl_check(sheet, 15, is_a, 9, why) == TPL_CLASH, "X=A clashes in P");
+    expect(is_why(why, 91, 92, 93, 94, 95), "a clash has no cause");
+    expect(tpl_check(sheet, 16, is_a, 9, why) == -TPL_BYTES_LEFT_OVER, "checking reads the sheet first");
+    expect(tpl_check(sheet, 15, is_a, 8, why) == -TPL_FILLING_SIZE, "eight bytes for one field are refused with 20");
+    expect(tpl_check(sheet, 15, too_long, 9, why) == -TPL_LENGTH, "a length of 2 for a limit of 1 is refused with 21");
+    expect(is_why(why, 91, 92, 93, 94, 95), "a refusal has no cause");
+    expect(tpl_check(sheet, 15, is_empty, 9, why) == TPL_DOES_NOT_CLASH, "an empty X does not clash in P");
+    expect(is_why(why, TPL_PAIR_DIFFERS, 0, 0, TPL_RIGHT, 1), "of nothing and A no letter agrees, and A is left over on the right");
+}
+
+/* The letters A and B, the fields X and Y of limit 2, and the pairs X against Y, XA against AY. By rule 0 X has at most 1 letter, and by rule 1 the two
+ * have at least 1 together. */
+static const uint8_t pairs_and_rules[31] = { 'T', 'P', 'L', 0, 1, 2, 2, 2, 2, 'A', 'B', 2, 2, 1, 1, 128, 129, 2, 2, 128, 0, 0, 129, 1, 0, 0, 1,
+                                             255, 255, 255, 255 };
+
+/* Texts for X and Y that do not clash there, and what is to be told of them. */
+static const struct { const char *x, *y; uint64_t cause, number, agreeing, side, rest; } causes[] = {
+    { "BA", "AA", TPL_PAIR_DIFFERS, 0, 0, TPL_LEFT, 2 },
+    { "A", "BA", TPL_PAIR_DIFFERS, 0, 0, TPL_LEFT, 1 }, /* the left rest, though the right one is longer */
+    { "AA", "AB", TPL_PAIR_DIFFERS, 0, 1, TPL_LEFT, 1 }, /* rule 0 does not hold either */
+    { "AB", "A", TPL_PAIR_DIFFERS, 0, 1, TPL_LEFT, 1 },
+    { "A", "AB", TPL_PAIR_DIFFERS, 0, 1, TPL_RIGHT, 1 },
+    { "AB", "", TPL_PAIR_DIFFERS, 0, 0, TPL_LEFT, 2 },
+    { "", "AB", TPL_PAIR_DIFFERS, 0, 0, TPL_RIGHT, 2 },
+    { "B", "B", TPL_PAIR_DIFFERS, 1, 0, TPL_LEFT, 2 },
+    { "AB", "AB", TPL_PAIR_DIFFERS, 1, 1, TPL_LEFT, 2 },
+    { "AA", "AA", TPL_RULE_BROKEN, 0, 0, 0, 0 },
+    { "", "", TPL_RULE_BROKEN, 1, 0, 0, 0 }
+};
+
+/* Gives a field a text of As and Bs. */
+static void put(uint8_t *field, const char *text) {
+    memset(field, TPL_PAST_LENGTH, TPL_FIELD_BYTES);
+    field[0] = (uint8_t)strlen(text);
+    for (size_t place = 0; text[place]; place++) {
+        field[1 + place] = (uint8_t)(text[place] - 'A');
+    }
+}
+
+static void telling_why(void) {
+    for (size_t i = 0; i < sizeof causes / sizeof causes[0]; i++) {
+        uint64_t why[LENT] = { 91, 92, 93, 94, 95, 96 };
+        uint8_t filling[2 * TPL_FIELD_BYTES];
+        put(filling, causes[i].x);
+        put(filling + TPL_FIELD_BYTES, causes[i].y);
+        expect(tpl_check(pairs_and_rules, sizeof pairs_and_rules, filling, sizeof filling, why) == TPL_DOES_NOT_CLASH,
+               "texts that differ or break a rule do not clash");
+        if (!is_why(why, causes[i].cause, causes[i].number, causes[i].agreeing, causes[i].side, causes[i].rest)) {
+            printf("C header: FAILED: the cause of X=%s and Y=%s, or the number after it\n", causes[i].x, causes[i].y);
+            all_passed = 0;
+        }
+    }
 }
 
 static void spelling(void) {
@@ -101,6 +157,7 @@ static const uint8_t y_is_a[18] = { 0, 255, 255, 255, 255, 255, 255, 255, 255, 1
 
 static void searching(void) {
     uint8_t filling[TPL_FILLING_MOST], before[TPL_FILLING_MOST];
+    uint64_t why[TPL_WHY_NUMBERS];
     memset(before, '.', sizeof before);
     memcpy(filling, before, sizeof filling);
     expect(tpl_search(sheet, 16, filling, sizeof filling) == -TPL_BYTES_LEFT_OVER, "searching reads the sheet first");
@@ -117,7 +174,7 @@ static void searching(void) {
     expect(tpl_search(sheet, 15, filling, 9) == TPL_CLASH, "nine bytes are enough for it");
     expect(memcmp(filling, is_a, sizeof is_a) == 0, "the clash is again X=A");
     expect(memcmp(filling + 9, before, sizeof filling - 9) == 0, "the bytes after the buffer stay");
-    expect(tpl_check(sheet, 15, filling, 9) == TPL_CLASH, "what is found checks as a clash");
+    expect(tpl_check(sheet, 15, filling, 9, why) == TPL_CLASH, "what is found checks as a clash");
     expect(tpl_search(several, 23, filling, sizeof filling) == TPL_CLASH, "a sheet with several clashes clashes");
     expect(memcmp(filling, y_is_a, sizeof y_is_a) == 0, "of several clashes the first is given");
 }
@@ -368,7 +425,7 @@ static void all_texts(const uint8_t *large, size_t n, const uint8_t *filling, in
 /* A large sheet fits in the buffers. `answer` is what the search must say of it, and `length` that of each text where it is a clash. */
 static void fits(const char *name, int64_t answer, int64_t length) {
     uint8_t large[TPL_SHEET_MOST], filling[TPL_FILLING_MOST];
-    uint64_t counts[4] = { 0, 0, 0, 0 };
+    uint64_t counts[4] = { 0, 0, 0, 0 }, why[TPL_WHY_NUMBERS];
     size_t n = read_digits(name, large);
     if (n == 0) {
         printf("C header: FAILED: %s cannot be read, or has more than TPL_SHEET_MOST bytes\n", name);
@@ -381,7 +438,7 @@ static void fits(const char *name, int64_t answer, int64_t length) {
     expect(tpl_search(large, n, filling, sizeof filling) == answer, "a large sheet is searched");
     all_lines(large, n);
     if (answer == TPL_CLASH) {
-        expect(tpl_check(large, n, filling, sizeof filling) == TPL_CLASH, "the filling of a large sheet clashes");
+        expect(tpl_check(large, n, filling, sizeof filling, why) == TPL_CLASH, "the filling of a large sheet clashes");
         all_texts(large, n, filling, length);
     }
 }
@@ -420,6 +477,7 @@ int main(void) {
     naming();
     reading();
     checking();
+    telling_why();
     spelling();
     searching();
     counting();

@@ -66,6 +66,18 @@ const VERSION: u16 = 1;
 /// Field f is the symbol 128 + f.
 const FIRST_FIELD_SYMBOL: usize = 128;
 
+impl Rule {
+    /// The sum at these lengths of the fields.
+    pub fn sum(&self, lengths: &[usize]) -> i64 {
+        let terms = self.coefficients.iter().zip(lengths);
+        terms.map(|(&n, &length)| n * length as i64).sum()
+    }
+
+    pub fn holds(&self, lengths: &[usize]) -> bool {
+        self.sum(lengths) <= i64::from(self.limit)
+    }
+}
+
 impl Pair {
     pub fn side(&self, side: Side) -> &[Symbol] {
         match side {

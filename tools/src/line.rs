@@ -92,6 +92,12 @@ impl Line {
         self.fault(format!("expected {what}, and found {found}"))
     }
 
+    /// What is left of the line, with one space where there are several.
+    pub fn rest(&self) -> String {
+        let rest: String = self.chars[self.at..].iter().collect();
+        rest.split_whitespace().collect::<Vec<_>>().join(" ")
+    }
+
     /// The end of the line, or what stands before it.
     pub fn end(&mut self, after: &str) -> Result<(), Fault> {
         match self.peek() {

@@ -3,6 +3,7 @@
 
 mod apart;
 mod book;
+mod cause;
 mod count;
 mod draw;
 mod file;
@@ -224,8 +225,9 @@ fn fill(words: &[String]) -> Result<u8, Failure> {
     };
     let input = input::load(file).map_err(faulty)?;
     let filling = fill::filling(&input, texts).map_err(faulty)?;
-    say_lines(&fill::verdict(&input, &filling).map_err(faulty)?)?;
-    Ok(0)
+    let (fits, lines) = fill::verdict(&input, &filling).map_err(faulty)?;
+    say_lines(&lines)?;
+    Ok(if fits { 0 } else { DISAGREE })
 }
 
 fn bytes(words: &[String]) -> Result<u8, Failure> {

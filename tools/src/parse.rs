@@ -158,7 +158,7 @@ impl Read {
     /// A rule, or two where both sides are to be the same.
     fn rule(&mut self, mut line: Line) -> Result<(), Fault> {
         line.peek();
-        let start = line.place();
+        let (start, written) = (line.place(), line.rest());
         let relation = rule::relation(&mut line, &|line| self.field_name(line, ')'))?;
         line.end("the rule")?;
         for bound in relation.bounds() {
@@ -179,6 +179,7 @@ impl Read {
             });
             self.places.rules.push(RulePlaces {
                 start,
+                written: written.clone(),
                 fields: relation.places.clone(),
             });
         }

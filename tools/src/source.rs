@@ -36,6 +36,8 @@ pub struct PairPlaces {
 
 pub struct RulePlaces {
     pub start: Place,
+    /// What stands there, with one space where there are several.
+    pub written: String,
     /// Where a field of this number stands in the rule.
     pub fields: Vec<(usize, Place)>,
 }

@@ -36,17 +36,18 @@ impl Form {
         }
     }
 
-    /// A rule with `>=` where the first coefficient is negative, so that `-len(a) <= -1` reads `len(a) >= 1`.
+    /// A rule with `>=` where it is turned, so that `-len(a) <= -1` reads `len(a) >= 1`.
     pub fn rule_text(&self, rule: &Rule) -> String {
-        let first = rule
-            .coefficients
-            .iter()
-            .find(|&&coefficient| coefficient != 0);
-        let turned = first.map_or(false, |&coefficient| coefficient < 0);
-        let sign = if turned { -1 } else { 1 };
+        let relation = if rule.turned() { ">=" } else { "<=" };
+        let limit = rule.sign() * i64::from(rule.limit);
+        format!("{} {relation} {limit}", self.sum_text(rule))
+    }
+
+    /// The sum of a rule, with all signs turned where the rule is.
+    pub fn sum_text(&self, rule: &Rule) -> String {
         let mut sum = String::new();
         for (field, coefficient) in self.fields.iter().zip(&rule.coefficients) {
-            let coefficient = sign * coefficient;
+            let coefficient = rule.sign() * coefficient;
             if coefficient == 0 {
                 continue;
             }
@@ -63,7 +64,26 @@ impl Form {
         if sum.is_empty() {
             sum += "0";
         }
-        let relation = if turned { ">=" } else { "<=" };
-        format!("{sum} {relation} {}", sign * i64::from(rule.limit))
+        sum
+    }
+}
+
+impl Rule {
+    /// Whether it is written with all signs turned: where the first coefficient is negative.
+    pub fn turned(&self) -> bool {
+        let first = self
+            .coefficients
+            .iter()
+            .find(|&&coefficient| coefficient != 0);
+        first.map_or(false, |&coefficient| coefficient < 0)
+    }
+
+    /// By what its coefficients and its limit are multiplied where it is written.
+    pub fn sign(&self) -> i64 {
+        if self.turned() {
+            -1
+        } else {
+            1
+        }
     }
 }

@@ -1,4 +1,7 @@
-//! What the calls answer where they refuse nothing, and the sides of a pair.
+//! What the calls answer where they refuse nothing, and the sides of a pair. Why a filling does not clash is in `cause.rs`.
+
+use crate::Cause;
+use std::fmt;
 
 /// How many of each a sheet has.
 #[derive(Clone, Copy, Debug, PartialEq, Eq, Hash)]
@@ -29,8 +32,8 @@ pub struct ClauseCounts {
 pub enum Checked {
     /// In every pair both templates spell the same text, and every rule holds.
     Clash,
-    /// Some pair's templates spell different texts, or some rule does not hold.
-    NoClash,
+    /// Some pair's templates spell different texts, or some rule does not hold; the cause tells the first of these.
+    NoClash(Cause),
 }
 
 /// Whether some filling of a sheet clashes.
@@ -67,5 +70,47 @@ impl Side {
             Side::Left => 0,
             Side::Right => 1,
         }
+    }
+
+    /// The side of a number, if there is one.
+    pub fn from_number(number: u64) -> Option<Side> {
+        match number {
+            0 => Some(Side::Left),
+            1 => Some(Side::Right),
+            _ => None,
+        }
+    }
+}
+
+/// `left` or `right`.
+impl fmt::Display for Side {
+    fn fmt(&self, out: &mut fmt::Formatter) -> fmt::Result {
+        out.pad(match self {
+            Side::Left => "left",
+            Side::Right => "right",
+        })
+    }
+}
+
+#[cfg(test)]
+mod tests {
+    use super::*;
+
+    #[test]
+    fn a_number_leads_back_to_its_side() {
+        for side in [Side::Left, Side::Right] {
+            assert_eq!(Side::from_number(side.number()), Some(side));
+        }
+        for number in [2, 256, u64::MAX] {
+            assert_eq!(Side::from_number(number), None);
+        }
+    }
+
+    #[test]
+    fn a_side_prints_its_name() {
+        assert_eq!(
+            format!("{} and {}", Side::Left, Side::Right),
+            "left and right"
+        );
     }
 }

@@ -1,11 +1,13 @@
 //! The engine's nine calls, over any bytes and lent buffers. Each answers, or gives the first refusal in the order of documents 01 and 02,
 //! with all that was lent to it as it was. They allocate nothing.
 
+use crate::cause::WHY_NUMBERS;
 use crate::engine;
 use crate::status::{Call, OF_BOOK, OF_SHEET};
 use crate::Refusal;
 
 pub use crate::answers::{Checked, ClauseCounts, Counts, Searched};
+pub use crate::cause::Cause;
 
 /// Reads a sheet of any bytes: its counts, or one of the refusals 1 to 15.
 ///
@@ -36,14 +38,16 @@ pub fn read(sheet: &[u8]) -> Result<Counts, Refusal> {
     })
 }
 
-/// Checks a filling of any bytes: whether it clashes, or one of the refusals 1 to 15 and 20 to 23.
+/// Checks a filling of any bytes: whether it clashes, and why if it does not; or one of the refusals 1 to 15 and 20 to 23.
 ///
 /// ```
-/// use lunthegyr::calls::{self, Checked};
+/// use lunthegyr::calls::{self, Cause, Checked};
+/// use lunthegyr::Side;
 ///
 /// let sheet = b"TPL\x00\x01\x01\x01\x01\x00A\x01\x01\x01\x80\x00";
 /// let is_empty = [0, 255, 255, 255, 255, 255, 255, 255, 255];
-/// assert_eq!(calls::check(sheet, &is_empty), Ok(Checked::NoClash));
+/// let cause = Cause::PairDiffers { pair: 0, agreeing: 0, side: Side::Right, rest: 1 }; // nothing against A
+/// assert_eq!(calls::check(sheet, &is_empty), Ok(Checked::NoClash(cause)));
 /// ```
 pub fn check(sheet: &[u8], filling: &[u8]) -> Result<Checked, Refusal> {
     const CALL: Call = Call {
@@ -52,8 +56,9 @@ pub fn check(sheet: &[u8], filling: &[u8]) -> Result<Checked, Refusal> {
         reads: OF_SHEET,
         own: &[20, 21, 22, 23],
     };
-    match CALL.outcome(engine::check(sheet, filling))? {
-        0 => Ok(Checked::NoClash),
+    let mut why = [0; WHY_NUMBERS];
+    match CALL.outcome(engine::check(sheet, filling, &mut why))? {
+        0 => Ok(Checked::NoClash(Cause::of(why))),
         _ => Ok(Checked::Clash),
     }
 }
@@ -237,7 +242,8 @@ pub fn book(book: &[u8], list: &mut [u8]) -> Result<usize, Refusal> {
 #[cfg(test)]
 mod tests {
     use super::*;
-    use crate::samples::{sheet_of, BOOK, P, P_FILE};
+    use crate::samples::{sheet_of, BOOK, P, PAIRS_AND_RULES, P_FILE};
+    use crate::{Filling, Side};
 
     const IS_A: [u8; 9] = [1, 0, 255, 255, 255, 255, 255, 255, 255];
     const GOOD: &[u8] = b"s SATISFIABLE\nv 1 0\n";
@@ -264,7 +270,10 @@ mod tests {
         assert_eq!(book(&marked, &mut []), Err(Refusal::BookMark));
         assert_eq!(book(&BOOK[..4], &mut []), Err(Refusal::BookMark));
         assert_eq!(book(&BOOK[..5], &mut []), Err(Refusal::BookFault));
-        assert_eq!(book(&BOOK[..BOOK.len() - 1], &mut []), Err(Refusal::BookFault));
+        assert_eq!(
+            book(&BOOK[..BOOK.len() - 1], &mut []),
+            Err(Refusal::BookFault)
+        );
         assert_eq!(book(&BOOK, &mut []), Err(Refusal::BufferBelowList));
     }
 
@@ -355,6 +364,97 @@ mod tests {
         assert_eq!(
             spell(sheet.bytes(), u64::MAX, 0, &empty, &mut text),
             Err(Refusal::PairNumber)
+        );
+    }
+
+    /// What checking the sheet of two pairs and two rules says, with these texts in its fields, which are x and y.
+    fn checked(x: &[u8], y: &[u8]) -> Checked {
+        let filling = Filling::from_letters(&[x, y]).unwrap();
+        check(&PAIRS_AND_RULES, filling.bytes()).unwrap()
+    }
+
+    fn differs(pair: usize, agreeing: usize, side: Side, rest: usize) -> Checked {
+        Checked::NoClash(Cause::PairDiffers {
+            pair,
+            agreeing,
+            side,
+            rest,
+        })
+    }
+
+    const A: u8 = 0;
+    const B: u8 = 1;
+
+    #[test]
+    fn a_filling_that_clashes_has_no_cause() {
+        assert_eq!(checked(&[A], &[A]), Checked::Clash);
+        assert_eq!(checked(&[A, A], &[A, A]), Checked::Clash);
+    }
+
+    #[test]
+    fn the_letters_that_agree_and_the_rest_are_told() {
+        // In the first letter, in the middle, and in the last.
+        assert_eq!(checked(&[A, A, A], &[B, A]), differs(0, 0, Side::Left, 3));
+        assert_eq!(checked(&[A, B, A], &[A, A]), differs(0, 1, Side::Left, 2));
+        assert_eq!(checked(&[A, A], &[A, B]), differs(0, 1, Side::Left, 1));
+        // ab against acd: it is the left rest, though the right one is longer.
+        assert_eq!(checked(&[A, B], &[A, A, B]), differs(0, 1, Side::Left, 1));
+    }
+
+    #[test]
+    fn a_text_may_be_the_start_of_the_other() {
+        assert_eq!(checked(&[A, B], &[A, B, A]), differs(0, 2, Side::Right, 1));
+        assert_eq!(checked(&[A, B, A], &[A]), differs(0, 1, Side::Left, 2));
+    }
+
+    #[test]
+    fn a_text_may_be_empty() {
+        assert_eq!(checked(&[], &[A, B]), differs(0, 0, Side::Right, 2));
+        assert_eq!(checked(&[A, B], &[]), differs(0, 0, Side::Left, 2));
+    }
+
+    #[test]
+    fn the_first_pair_that_differs_is_told() {
+        // The second pair has x and A against A and y.
+        assert_eq!(checked(&[B], &[B]), differs(1, 0, Side::Left, 2));
+        assert_eq!(checked(&[A, B], &[A, B]), differs(1, 1, Side::Left, 2));
+        // Here both differ.
+        assert_eq!(checked(&[B], &[A]), differs(0, 0, Side::Left, 1));
+    }
+
+    #[test]
+    fn the_first_rule_that_does_not_hold_is_told_where_no_pair_differs() {
+        let broken = |rule| Checked::NoClash(Cause::RuleBroken { rule });
+        assert_eq!(checked(&[], &[]), broken(1));
+        assert_eq!(checked(&[A; 3], &[A; 3]), broken(0));
+        // A pair comes before a rule.
+        assert_eq!(checked(&[A; 3], &[A, A, B]), differs(0, 2, Side::Left, 1));
+    }
+
+    #[test]
+    fn why_is_written_only_where_a_filling_does_not_clash() {
+        const BEFORE: [u64; WHY_NUMBERS] = [91, 92, 93, 94, 95];
+        let why = |sheet: &[u8], filling: &[u8]| {
+            let mut why = BEFORE;
+            (engine::check(sheet, filling, &mut why), why)
+        };
+        let empty = [0, 255, 255, 255, 255, 255, 255, 255, 255];
+        assert_eq!(why(&P, &IS_A), (1, BEFORE));
+        assert_eq!(why(&P[..14], &empty), (-8, BEFORE));
+        assert_eq!(why(&P, &empty[..8]), (-20, BEFORE));
+        assert_eq!(
+            why(&P, &[2, 0, 0, 255, 255, 255, 255, 255, 255]),
+            (-21, BEFORE)
+        );
+        assert_eq!(
+            why(&P, &[1, 1, 255, 255, 255, 255, 255, 255, 255]),
+            (-22, BEFORE)
+        );
+        assert_eq!(why(&P, &[0; 9]), (-23, BEFORE));
+        assert_eq!(why(&P, &empty), (0, [1, 0, 0, 1, 1]));
+        assert_eq!(
+            why(&PAIRS_AND_RULES, &empty.repeat(2)),
+            (0, [2, 1, 0, 0, 0])
         );
     }
 

@@ -5,7 +5,7 @@
 
 extern "C" {
     fn tpl_read(sheet: *const u8, n: usize, counts: *mut u64) -> i64;
-    fn tpl_check(sheet: *const u8, n: usize, filling: *const u8, m: usize) -> i64;
+    fn tpl_check(sheet: *const u8, n: usize, filling: *const u8, m: usize, why: *mut u64) -> i64;
     fn tpl_spell(
         sheet: *const u8,
         n: usize,
@@ -36,9 +36,17 @@ pub fn read(sheet: &[u8], counts: &mut [u64; 4]) -> i64 {
     unsafe { tpl_read(sheet.as_ptr(), sheet.len(), counts.as_mut_ptr()) }
 }
 
-pub fn check(sheet: &[u8], filling: &[u8]) -> i64 {
-    // SAFETY: the pointers lead to `sheet.len()` and `filling.len()` bytes.
-    unsafe { tpl_check(sheet.as_ptr(), sheet.len(), filling.as_ptr(), filling.len()) }
+pub fn check(sheet: &[u8], filling: &[u8], why: &mut [u64; 5]) -> i64 {
+    // SAFETY: the pointers lead to `sheet.len()` and `filling.len()` bytes and to five numbers.
+    unsafe {
+        tpl_check(
+            sheet.as_ptr(),
+            sheet.len(),
+            filling.as_ptr(),
+            filling.len(),
+            why.as_mut_ptr(),
+        )
+    }
 }
 
 pub fn spell(sheet: &[u8], pair: u64, side: u64, filling: &[u8], text: &mut [u8]) -> i64 {

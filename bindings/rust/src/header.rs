@@ -1,16 +1,22 @@
 //! The names and numbers of `include/lunthegyr.h` against those of this crate.
 
+use crate::cause::{Cause, WHY_NUMBERS};
 use crate::{sizes, Refusal, Side};
 use std::collections::BTreeMap;
 
 const HEADER: &str = include_str!("../../../include/lunthegyr.h");
 
-/// The header's refusals: lines such as `TPL_MARK = 2,`.
-fn refusals() -> BTreeMap<String, u64> {
-    HEADER.lines().filter_map(refusal).collect()
+/// The names and numbers of one of the header's lists: lines such as `TPL_MARK = 2,`.
+fn listed(list: &str) -> BTreeMap<String, u64> {
+    let first = format!("enum {list} {{");
+    let lines = HEADER.lines().skip_while(|line| *line != first);
+    lines
+        .take_while(|line| *line != "};")
+        .filter_map(named)
+        .collect()
 }
 
-fn refusal(line: &str) -> Option<(String, u64)> {
+fn named(line: &str) -> Option<(String, u64)> {
     let (name, rest) = line.trim().strip_prefix("TPL_")?.split_once(" = ")?;
     let number = rest.split(|c: char| !c.is_ascii_digit()).next()?;
     Some((name.to_string(), number.parse().ok()?))
@@ -48,7 +54,25 @@ fn the_refusals_are_the_headers() {
     let ours = Refusal::ALL
         .iter()
         .map(|refusal| (in_c(&format!("{refusal:?}")), u64::from(refusal.number())));
-    assert_eq!(refusals(), ours.collect());
+    assert_eq!(listed("tpl_refusal"), ours.collect());
+}
+
+#[test]
+fn the_causes_are_the_headers() {
+    // Numbers that are a cause of each kind.
+    let ours = [[1, 0, 0, 0, 1], [2, 0, 0, 0, 0]].map(|why| {
+        let shown = format!("{:?}", Cause::of(why));
+        let name = shown.split(' ').next().expect("a name comes first");
+        (in_c(name), why[0])
+    });
+    assert_eq!(listed("tpl_cause"), ours.into());
+}
+
+#[test]
+fn every_list_of_the_header_is_one_of_these() {
+    let named = HEADER.lines().filter_map(named).count();
+    let listed = ["tpl_refusal", "tpl_cause"].map(|list| listed(list).len());
+    assert_eq!(named, listed.iter().sum());
 }
 
 #[test]
@@ -74,6 +98,7 @@ fn the_sizes_and_other_constants_are_the_headers() {
         ("LIST_MOST", sizes::LIST_MOST as u64),
         ("LEFT", Side::Left.number()),
         ("RIGHT", Side::Right.number()),
+        ("WHY_NUMBERS", WHY_NUMBERS as u64),
         // As `calls::check` and `calls::search` take them.
         ("CLASH", 1),
         ("DOES_NOT_CLASH", 0),

@@ -32,6 +32,9 @@
 //! # Ok::<(), lunthegyr::Refusal>(())
 //! ```
 //!
+//! [`Sheet::check`] says of texts of one's own whether they clash, and if they do not, where the first two texts part and what is left over, or
+//! which rule does not hold.
+//!
 //! [`Book`], [`Sheet`] and [`Filling`] are for most uses. The module [`calls`] has the engine's nine calls over any bytes and lent buffers; it
 //! allocates nothing.
 
@@ -41,6 +44,7 @@
 mod answers;
 mod book;
 pub mod calls;
+mod cause;
 #[allow(unsafe_code)]
 mod engine;
 mod filling;
@@ -56,6 +60,7 @@ mod samples;
 
 pub use answers::{Checked, Clashing, ClauseCounts, Counts, Searched, Side};
 pub use book::{Book, Template};
+pub use cause::Cause;
 pub use filling::Filling;
 pub use refusal::Refusal;
 pub use sheet::Sheet;

@@ -9,6 +9,14 @@ pub const P: [u8; 15] = *b"TPL\x00\x01\x01\x01\x01\x00A\x01\x01\x01\x80\x00";
 pub const P_FILE: &[u8] =
     b"p cnf 6 8\n1 2 0\n-1 -2 0\n3 0\n-3 -2 5 0\n-3 2 6 0\n-4 -2 6 0\n-4 2 0\n-5 0\n";
 
+/// A sheet with the letters A and B, the fields x and y of limit 3, and two pairs: x against y; x and A against A and y. By its rules x has at most 2
+/// letters, and x and y have at least 1 together.
+pub const PAIRS_AND_RULES: [u8; 31] = *b"TPL\x00\x01\x02\x02\x02\x02AB\x03\x03\
+\x01\x01\x80\x81\
+\x02\x02\x80\x00\x00\x81\
+\x01\x00\x00\x02\
+\xFF\xFF\xFF\xFF";
+
 /// A book with the letters A and B and four templates, of which 0 and 1 clash, and 1 and 3: A and its field 0; its fields 1 and 0, and A; B;
 /// its fields 0 and 2, and ABA.
 pub const BOOK: [u8; 34] = *b"TPB\x00\x01\x02AB\x04\

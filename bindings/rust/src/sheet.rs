@@ -48,16 +48,22 @@ impl Sheet {
         &self.bytes[HEADER_BYTES..][..self.counts.letters]
     }
 
-    /// Whether a filling clashes. Refusals: 20 to 23.
+    /// Whether a filling clashes; and if it does not, why: the first pair whose two texts differ, with what is left over of them, or else the first
+    /// rule that does not hold. Refusals: 20 to 23.
     ///
     /// ```
-    /// use lunthegyr::{Checked, Filling, Refusal, Sheet};
+    /// use lunthegyr::{Cause, Checked, Filling, Refusal, Sheet, Side};
     ///
-    /// let sheet = Sheet::read(*b"TPL\x00\x01\x01\x01\x01\x00A\x01\x01\x01\x80\x00")?;
-    /// let texts = |text| Filling::from_letters(&[text]).expect("the text is short");
-    /// assert_eq!(sheet.check(&texts(&[0])), Ok(Checked::Clash));
-    /// assert_eq!(sheet.check(&texts(&[])), Ok(Checked::NoClash));
-    /// assert_eq!(sheet.check(&texts(&[0, 0])), Err(Refusal::Length)); // the field's limit is 1
+    /// // Two letters, A and B; one field of at most two; one pair: A and the field against the field and A; one rule: the field is not empty.
+    /// let sheet = Sheet::read(*b"TPL\x00\x01\x02\x01\x01\x01AB\x02\x02\x02\x00\x80\x80\x00\xFF\xFF\xFF")?;
+    /// let check = |text| sheet.check(&Filling::from_letters(&[text]).expect("the text is short"));
+    /// assert_eq!(check(&[0]), Ok(Checked::Clash));
+    /// // AAB against ABA: A agrees, and AB is the rest.
+    /// let cause = Cause::PairDiffers { pair: 0, agreeing: 1, side: Side::Left, rest: 2 };
+    /// assert_eq!(check(&[0, 1]), Ok(Checked::NoClash(cause)));
+    /// // A against A, but the field is empty.
+    /// assert_eq!(check(&[]), Ok(Checked::NoClash(Cause::RuleBroken { rule: 0 })));
+    /// assert_eq!(check(&[0, 0, 0]), Err(Refusal::Length)); // the field's limit is 2
     /// # Ok::<(), Refusal>(())
     /// ```
     pub fn check(&self, filling: &Filling) -> Result<Checked, Refusal> {

@@ -37,11 +37,13 @@ impl Call {
     }
 
     fn unknown(&self, status: i64) -> ! {
-        panic!(
-            "{} returned {status}, which lunthegyr.h does not allow: the program was linked with another library",
-            self.name
-        )
+        not_allowed(&format!("{} returned {status}", self.name))
     }
+}
+
+/// Ends the program, with what the library did.
+pub fn not_allowed(done: &str) -> ! {
+    panic!("{done}, which lunthegyr.h does not allow: the program was linked with another library")
 }
 
 #[cfg(test)]
