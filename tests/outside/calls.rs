@@ -3,12 +3,13 @@
 //! answers the same again. It knows the ranges of answers, and not which answer is right.
 
 use crate::book::{MOST_TEMPLATES, PAIR_BYTES};
-use crate::engine::{self, buffer_before, filling_bytes, Outcome, COUNTS_BEFORE};
+use crate::engine::{self, buffer_before, filling_bytes, Outcome, COUNTS_BEFORE, WHY_BEFORE};
 use crate::listed::{self, Call, LONGEST_LINE, LONGEST_TEXT, SHORTEST_LINE};
 use crate::reader::{HEADER_BYTES, MOST_FIELDS, MOST_LETTERS, MOST_PAIRS, MOST_RULES};
 use crate::report::{require, Case, Hex};
 use crate::speller::Spelling;
 use crate::tally::Tally;
+use crate::whys;
 use std::fmt::Debug;
 
 /// One call in so many is made a second time.
@@ -16,7 +17,8 @@ const AGAIN: usize = 8;
 /// Where a sheet has its letter count.
 const LETTER_COUNT_OFFSET: usize = 5;
 
-/// A call with what it returned, and where that hands over a filling, the filling's size.
+/// A call with what it returned, and where that hands over a filling, the filling's size; or where a
+/// check says why there is no clash, the kind of that.
 pub type Reached = (Call, i64, usize);
 
 /// The calls that were made, and what they answered.
@@ -28,6 +30,8 @@ pub struct Calls {
     pub compared: Tally,
     /// What was wrong with the books that were refused.
     pub faults: Tally,
+    /// What was first against the fillings that do not clash.
+    whys: Tally,
     tallies: Vec<Tally>,
 }
 
@@ -38,6 +42,7 @@ impl Calls {
             reached: Vec::new(),
             compared: Tally::new("other clashes", &["the search's own", "a later one"], 0..0),
             faults: listed::faults(),
+            whys: Tally::new("why there is no clash", &whys::KINDS, 0..0),
             tallies: listed::tallies(),
         }
     }
@@ -56,10 +61,25 @@ impl Calls {
         got
     }
 
-    /// `tpl_check`.
-    pub fn check(&mut self, sheet: &[u8], filling: &[u8]) -> Outcome<u8> {
+    /// `tpl_check`; where there is no clash, the five numbers are in their ranges.
+    pub fn check(&mut self, sheet: &[u8], filling: &[u8]) -> Outcome<u64> {
         let case: &Case = &[("sheet", &Hex(sheet)), ("filling", &Hex(filling))];
-        self.hold(Call::Check, &[], 0, case, || engine::check(sheet, filling))
+        let got = self.hold(Call::Check, &WHY_BEFORE, WHY_BEFORE.len(), case, || {
+            engine::check(sheet, filling)
+        });
+        if got.status == 0 {
+            let kind = whys::kind(&got.lent);
+            require(
+                kind.is_some(),
+                "no check gives these numbers",
+                &[case, &[("answer", &got)]].concat(),
+            );
+            if let Some(kind) = kind {
+                self.whys.count(Ok(whys::KINDS[kind]));
+                self.reached.push((Call::Check, got.status, 1 + kind));
+            }
+        }
+        got
     }
 
     /// `tpl_spell`; a text is of the sheet's letters.
@@ -192,7 +212,7 @@ impl Calls {
     }
 
     /// Makes a call that is lent `before`, and that may write the first `most` values of it, or as many
-    /// as it answers where it answers a length or a number of pairs.
+    /// as it answers where it answers a length or a number of pairs, or none where a check finds a clash.
     fn hold<T: Debug + PartialEq>(
         &mut self,
         call: Call,
@@ -204,6 +224,7 @@ impl Calls {
         let got = run();
         let written = match call {
             _ if got.status < 0 => 0,
+            Call::Check if got.status > 0 => 0,
             Call::Spell | Call::Line | Call::File => got.status as usize,
             Call::Book => PAIR_BYTES.saturating_mul(got.status as usize),
             _ => most,
@@ -245,7 +266,7 @@ impl Calls {
 
     /// Prints how often each answer came up, and fails if one came up less often than `least`.
     pub fn finish(&self, least: usize) {
-        let beside = [&self.compared, &self.faults];
+        let beside = [&self.whys, &self.compared, &self.faults];
         for tally in self.tallies.iter().chain(beside) {
             tally.finish_on_a_line(least);
         }

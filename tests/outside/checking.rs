@@ -4,12 +4,14 @@ use crate::changes::each_value_of_each_byte;
 use crate::fillings;
 use crate::planted;
 use crate::random::Random;
-use crate::reader::{self, Sheet};
+use crate::reader::{self, Pair, Sheet, Symbol, GREATEST_WIDTH};
 use crate::sheets;
 use crate::speller::{self, Filling, Spelling, FIELD_BYTES, NO_LETTER};
 use crate::test::Test;
 
 const GENERATED: usize = 270_000;
+const AGAINST: usize = 100_000;
+const LONG_PERCENT: usize = 30;
 const PLANTED_PERCENT: usize = 80;
 const SPOILED_PERCENT: usize = 35;
 const DAMAGED_SHEETS_PERCENT: usize = 20;
@@ -20,6 +22,10 @@ pub fn run(test: &mut Test) {
     test.part("all pair and side numbers and buffers", all_numbers);
     test.part("fillings, one byte or the size changed", small_changes);
     test.part("generated fillings", generated);
+    test.part(
+        "fillings with pairs that differ and rules that break",
+        against,
+    );
 }
 
 /// Pair numbers at and beside the ends of what there is, and ones that a narrower type would cut.
@@ -131,6 +137,39 @@ fn sheet_and_filling(random: &mut Random) -> (Sheet, Filling) {
         if random.chance(SPOILED_PERCENT) {
             fillings::change_text(random, &sheet, &mut filling);
         }
+    }
+    (sheet, filling)
+}
+
+/// Fillings that clash but for some pairs and some rules, of which any may be the first.
+fn against(test: &mut Test) {
+    for _ in 0..AGAINST {
+        let random = &mut test.random;
+        let (mut sheet, filling) = if random.chance(LONG_PERCENT) {
+            long_texts(random)
+        } else {
+            planted::clashing(random, sheets::valid)
+        };
+        planted::differ(random, &mut sheet, &filling);
+        test.check(&sheets::encode(&sheet), &fillings::encode(&filling));
+    }
+}
+
+/// A sheet in which a full filling clashes, with long texts, and where a field's limit allows it with a
+/// longest one.
+fn long_texts(random: &mut Random) -> (Sheet, Filling) {
+    let mut sheet = sheets::valid(random);
+    let lengths = sheet.limits.clone();
+    let filling = planted::plant_parts(random, &mut sheet, &lengths);
+    let divides = |&limit: &u8| limit > 1 && GREATEST_WIDTH % usize::from(limit) == 0;
+    if let Some(field) = lengths.iter().position(divides) {
+        let times = GREATEST_WIDTH / usize::from(lengths[field]);
+        let template = vec![Symbol::Field(field as u8); times];
+        let pair = random.below(sheet.pairs.len());
+        sheet.pairs[pair] = Pair {
+            left: template.clone(),
+            right: template,
+        };
     }
     (sheet, filling)
 }

@@ -36,10 +36,11 @@ impl Turn<'_> {
         let below_file = (input.room as u64) < bytes;
         let too_long = input.reply.len() > MOST_BYTES;
         let (search, reply) = (answers.search.status, answers.reply.status);
+        let (check, spell) = (answers.check.status, answers.spell);
         for (status, refusal, due) in [
-            (answers.check, Refusal::FillingSize, no_size),
-            (answers.spell, Refusal::PairNumber, no_pair),
-            (answers.spell, Refusal::Side, !no_pair && no_side),
+            (check, Refusal::FillingSize, no_size),
+            (spell, Refusal::PairNumber, no_pair),
+            (spell, Refusal::Side, !no_pair && no_side),
             (search, Refusal::BufferBelowFilling, no_room),
             (answers.line, Refusal::LineNumber, input.line > clauses),
             (answers.file, Refusal::BufferBelowLine, below_file),
@@ -51,7 +52,6 @@ impl Turn<'_> {
             self.require((status == refusal) == due, reason, status, refusal);
         }
         if !no_pair && !no_side {
-            let (check, spell) = (answers.check, answers.spell);
             let same = if check < 0 {
                 spell == check
             } else {

@@ -10,8 +10,9 @@ extern "C" {
     /// Answers 0 and the counts L, V, E and R, or minus the refusal's number and no counts.
     fn tpl_read(sheet: *const u8, n: usize, counts: *mut u64) -> i64;
 
-    /// Answers 1 for a clash, 0 for none, or minus the refusal's number.
-    fn tpl_check(sheet: *const u8, n: usize, filling: *const u8, m: usize) -> i64;
+    /// Answers 1 for a clash, or 0 for none and the five numbers of what is first against it, or minus
+    /// the refusal's number; the first and the last without numbers.
+    fn tpl_check(sheet: *const u8, n: usize, filling: *const u8, m: usize, why: *mut u64) -> i64;
 
     /// Answers the text's length and the text, or minus the refusal's number and no text.
     fn tpl_spell(
@@ -91,6 +92,15 @@ pub const COUNTS_BEFORE: [u64; 4] = [
     1 << 63,
 ];
 
+/// What the five numbers hold before a check; it answers none of these.
+pub const WHY_BEFORE: [u64; 5] = [
+    0x9696_9696_9696_9696,
+    u64::MAX,
+    1 << 32,
+    0x6969_6969_6969_6969,
+    1 << 63,
+];
+
 /// What a buffer of `room` bytes holds before a call: no letter, no byte of a line or of a filling,
 /// and never one byte twice in a row.
 pub fn buffer_before(room: usize) -> Vec<u8> {
@@ -111,7 +121,7 @@ const FILLING_MARGIN: [u8; 16] = margin(255);
 const REPLY_MARGIN: &[u8; 16] = b"\nc\nv\nv 0\nv 1 0\nv";
 /// Without letters and bytes of a filling, so that one written past the end shows.
 const WRITTEN_MARGIN: [u8; 16] = margin(165);
-const COUNTS_MARGIN: [u64; 2] = [0x3C3C_3C3C_3C3C_3C3C, 0xC3C3_C3C3_C3C3_C3C3];
+const NUMBERS_MARGIN: [u64; 2] = [0x3C3C_3C3C_3C3C_3C3C, 0xC3C3_C3C3_C3C3_C3C3];
 
 /// Sixteen bytes, no two the same.
 const fn margin(first: u8) -> [u8; 16] {
@@ -127,7 +137,7 @@ const fn margin(first: u8) -> [u8; 16] {
 /// Calls `tpl_read` on a copy of `sheet`.
 pub fn read(sheet: &[u8]) -> Outcome<u64> {
     let mut bytes = Lent::to_read(sheet, &SHEET_MARGIN);
-    let mut counts = Lent::to_write(&COUNTS_BEFORE, &COUNTS_MARGIN);
+    let mut counts = Lent::to_write(&COUNTS_BEFORE, &NUMBERS_MARGIN);
     // The pointers lead to `sheet.len()` bytes and to four numbers.
     let status = unsafe { tpl_read(bytes.pointer(), sheet.len(), counts.pointer()) };
     let written = if status == 0 { 4 } else { 0 };
@@ -138,23 +148,26 @@ pub fn read(sheet: &[u8]) -> Outcome<u64> {
     }
 }
 
-/// Calls `tpl_check` on copies of `sheet` and `filling`. It may write nothing.
-pub fn check(sheet: &[u8], filling: &[u8]) -> Outcome<u8> {
+/// Calls `tpl_check` on copies of `sheet` and `filling`. It may write only where it answers 0.
+pub fn check(sheet: &[u8], filling: &[u8]) -> Outcome<u64> {
     let mut bytes = Lent::to_read(sheet, &SHEET_MARGIN);
     let mut fields = Lent::to_read(filling, &FILLING_MARGIN);
-    // The pointers lead to `sheet.len()` and `filling.len()` bytes.
+    let mut why = Lent::to_write(&WHY_BEFORE, &NUMBERS_MARGIN);
+    // The pointers lead to `sheet.len()` and `filling.len()` bytes and to five numbers.
     let status = unsafe {
         tpl_check(
             bytes.pointer(),
             sheet.len(),
             fields.pointer(),
             filling.len(),
+            why.pointer(),
         )
     };
+    let written = if status == 0 { WHY_BEFORE.len() } else { 0 };
     Outcome {
         status,
-        lent: Vec::new(),
-        rest_unchanged: bytes.unchanged() && fields.unchanged(),
+        lent: why.after(written),
+        rest_unchanged: bytes.unchanged() && fields.unchanged() && why.margins_unchanged(),
     }
 }
 
@@ -200,7 +213,7 @@ pub fn search(sheet: &[u8], room: usize) -> Outcome<u8> {
 /// Calls `tpl_count` on a copy of `sheet`.
 pub fn count(sheet: &[u8]) -> Outcome<u64> {
     let mut bytes = Lent::to_read(sheet, &SHEET_MARGIN);
-    let mut counts = Lent::to_write(&COUNTS_BEFORE[..3], &COUNTS_MARGIN);
+    let mut counts = Lent::to_write(&COUNTS_BEFORE[..3], &NUMBERS_MARGIN);
     // The pointers lead to `sheet.len()` bytes and to three numbers.
     let status = unsafe { tpl_count(bytes.pointer(), sheet.len(), counts.pointer()) };
     let written = if status == 0 { 3 } else { 0 };

@@ -8,8 +8,9 @@
 //! makes.
 //!
 //! With `fuzz` and a number it makes so many calls on inputs of all kinds, and holds their answers
-//! to what must be so whatever the input; with `--exact` after it nothing is lent with margins, so
-//! that valgrind's memcheck sees what is read or written outside of what is lent.
+//! to what must be so whatever the input, and what checks answer to plain answers; with `--exact` after
+//! it nothing is lent with margins, so that valgrind's memcheck sees what is read or written outside of
+//! what is lent.
 //!
 //! Two further words test no library. Of the sheet on standard input `clauses` prints the clause file
 //! from the plain writer, and `report` what the search program is to print, with the clash of the plain
@@ -35,6 +36,7 @@ mod first;
 #[allow(dead_code)]
 mod form;
 mod fuzz;
+mod handmade;
 mod hard;
 mod inputs;
 mod large;
@@ -72,6 +74,7 @@ mod ticking;
 #[path = "../../tools/src/ticks.rs"]
 mod ticks;
 mod turn;
+mod whys;
 mod writer;
 mod writing;
 
@@ -142,6 +145,7 @@ fn test_all() {
     reading::run(&mut test);
     examples::run(&mut test);
     orders::run(&mut test);
+    handmade::run(&mut test);
     checking::run(&mut test);
     brute::run(&mut test.random);
     writing::run(&mut test);

@@ -8,6 +8,9 @@ use crate::speller::{self, Filling};
 
 /// How often a template is sought that spells a text, before the other template is taken for it.
 const TRIES: usize = 8;
+/// How often a pair of a sheet that clashes is made to differ, and how often a rule is made to break.
+const DIFFERING_PERCENT: usize = 30;
+const BROKEN_PERCENT: usize = 35;
 
 /// Makes a filling clash: each right template comes to spell what the left one does, and each rule
 /// to hold, often only just.
@@ -167,6 +170,46 @@ pub fn template(
     }
     let fits = template.len() <= MOST_SYMBOLS && width(&template, limits) <= GREATEST_WIDTH;
     fits.then_some(template)
+}
+
+/// Makes any pairs of a sheet in which a filling clashes spell two texts, and any rules break, often
+/// only just. One of the two templates comes to spell its text altered, or where none is soon found that
+/// does, nothing.
+pub fn differ(random: &mut Random, sheet: &mut Sheet, filling: &Filling) {
+    let l = sheet.letters.len();
+    for pair in &mut sheet.pairs {
+        if random.chance(DIFFERING_PERCENT) {
+            let side = if random.chance(50) {
+                &mut pair.left
+            } else {
+                &mut pair.right
+            };
+            let text = altered(random, speller::text(side, filling), l);
+            let found = (0..TRIES).find_map(|_| template(random, &text, filling, &sheet.limits));
+            *side = found.unwrap_or_default();
+        }
+    }
+    for rule in &mut sheet.rules {
+        if random.chance(BROKEN_PERCENT) {
+            let below = random.one_of(&[1, 1, 2, 1000]);
+            rule.limit = speller::sum(rule, filling) as i16 - below;
+        }
+    }
+}
+
+/// A text of `l` letters, cut short or made longer or with another letter, at any place or at the last.
+fn altered(random: &mut Random, mut text: Vec<u8>, l: usize) -> Vec<u8> {
+    let any = random.below(text.len() + 1);
+    let place = random.one_of(&[any, text.len().saturating_sub(1)]);
+    let letter = random.below(l) as u8;
+    match random.below(8) {
+        0 => text.clear(),
+        1 | 2 => text.truncate(place),
+        3 => text.insert(place, letter),
+        4..=6 if place < text.len() => text[place] = letter,
+        _ => text.push(letter),
+    }
+    text
 }
 
 /// Changes one template or one rule a little.

@@ -187,7 +187,7 @@ fn require_clash(sheet: &[u8], filling: &[u8]) {
     let plain = speller::check(sheet, filling);
     let checked = engine::check(sheet, filling);
     require(
-        plain == Ok(Verdict::Clash) && checked == test::due(1, &[]),
+        plain == Ok(Verdict::Clash) && checked == test::due(1, &engine::WHY_BEFORE),
         "the filling that the search is to give does not clash",
         &[
             ("sheet", &Hex(sheet)),

@@ -1,8 +1,8 @@
 //! A plain checker of fillings and speller of templates, written from document 01 alone ("The
-//! sheet", "Checking a filling", "Spelling"). The library's answers are compared with it. It knows
-//! nothing of the library.
+//! sheet", "Checking a filling", "Spelling") and from document 02, No. 5. The library's answers are
+//! compared with it. It knows nothing of the library.
 
-use crate::reader::{self, Rule, Sheet, Symbol};
+use crate::reader::{self, Pair, Rule, Sheet, Symbol};
 use crate::refusal::Refusal;
 
 /// Each field's text, in letter numbers.
@@ -10,13 +10,40 @@ pub type Filling = Vec<Vec<u8>>;
 
 pub const FIELD_BYTES: usize = 9;
 pub const NO_LETTER: u8 = 255;
+pub const LEFT: u64 = 0;
+pub const RIGHT: u64 = 1;
 
-/// Whether a filling clashes, and if not, what is first against it.
+/// Whether a filling clashes, and if not, what is first against it: a pair, with what is left over of
+/// its texts, or a rule.
 #[derive(Clone, Copy, Debug, PartialEq)]
 pub enum Verdict {
     Clash,
-    PairDiffers(usize),
+    PairDiffers(usize, Rest),
     RuleBreaks(usize),
+}
+
+/// What is left over of two texts: so many letters of one side, after those that agree.
+#[derive(Clone, Copy, Debug, PartialEq)]
+pub struct Rest {
+    pub agreeing: usize,
+    pub side: u64,
+    pub length: usize,
+}
+
+impl Verdict {
+    /// The five numbers of what is against a clash: 1 for a pair, its number, the letters that agree,
+    /// the rest's side and length; or 2 for a rule, its number, and three times 0.
+    pub fn why(&self) -> Option<[u64; 5]> {
+        match *self {
+            Verdict::Clash => None,
+            Verdict::PairDiffers(pair, rest) => {
+                let [pair, agreeing, length] =
+                    [pair, rest.agreeing, rest.length].map(|number| number as u64);
+                Some([1, pair, agreeing, rest.side, length])
+            }
+            Verdict::RuleBreaks(rule) => Some([2, rule as u64, 0, 0, 0]),
+        }
+    }
 }
 
 /// What is to be spelled, and the length of the buffer for it.
@@ -43,8 +70,8 @@ pub fn spell(asked: Spelling) -> Result<Vec<u8>, Refusal> {
     let number = usize::try_from(asked.pair).map_err(|_| Refusal::PairNumber)?;
     let pair = sheet.pairs.get(number).ok_or(Refusal::PairNumber)?;
     let template = match asked.side {
-        0 => &pair.left,
-        1 => &pair.right,
+        LEFT => &pair.left,
+        RIGHT => &pair.right,
         _ => return Err(Refusal::Side),
     };
     let filling = read_filling(&sheet, asked.filling)?;
@@ -85,16 +112,40 @@ fn read_field(field: &[u8], limit: u8, l: usize) -> Result<Vec<u8>, Refusal> {
 /// Whether a legal filling clashes.
 pub fn judge(sheet: &Sheet, filling: &Filling) -> Verdict {
     for (number, pair) in sheet.pairs.iter().enumerate() {
-        if text(&pair.left, filling) != text(&pair.right, filling) {
-            return Verdict::PairDiffers(number);
+        let [left, right] = texts(pair, filling);
+        if left != right {
+            return Verdict::PairDiffers(number, compare(&left, &right));
         }
     }
     for (number, rule) in sheet.rules.iter().enumerate() {
-        if sum(rule, filling) > i32::from(rule.limit) {
+        if breaks(rule, filling) {
             return Verdict::RuleBreaks(number);
         }
     }
     Verdict::Clash
+}
+
+/// Document 02, No. 5: how many letters of two texts agree from the start, and the rest, which is the
+/// left one, unless the left text is used up; then it is the right one.
+pub fn compare(left: &[u8], right: &[u8]) -> Rest {
+    let both = left.iter().zip(right);
+    let agreeing = both.take_while(|(one, other)| one == other).count();
+    let used_up = agreeing == left.len();
+    let (side, text) = if used_up {
+        (RIGHT, right)
+    } else {
+        (LEFT, left)
+    };
+    Rest {
+        agreeing,
+        side,
+        length: text.len() - agreeing,
+    }
+}
+
+/// What both templates of a pair spell, in letter numbers.
+pub fn texts(pair: &Pair, filling: &Filling) -> [Vec<u8>; 2] {
+    [&pair.left, &pair.right].map(|template| text(template, filling))
 }
 
 /// What a template spells, in letter numbers.
@@ -107,6 +158,11 @@ pub fn text(template: &[Symbol], filling: &Filling) -> Vec<u8> {
         }
     }
     text
+}
+
+/// Is the sum of coefficient × field length above the rule's limit?
+pub fn breaks(rule: &Rule, filling: &Filling) -> bool {
+    sum(rule, filling) > i32::from(rule.limit)
 }
 
 /// What a rule compares with its limit: the sum of coefficient × field length.

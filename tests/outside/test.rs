@@ -2,6 +2,7 @@
 
 use crate::book::{self, Fault, PAIR_BYTES};
 use crate::engine::{self, Outcome};
+use crate::fillings;
 use crate::listed;
 use crate::random::Random;
 use crate::reader;
@@ -9,9 +10,13 @@ use crate::refusal::Refusal;
 use crate::report::{require, Case, Hex};
 use crate::shapes;
 use crate::speller::{self, Spelling, Verdict};
-use crate::tally::Tally;
+use crate::tally::{Answer, Tally};
+use crate::whys;
 use crate::writer::{Written, KINDS};
 use std::fmt::{self, Debug};
+
+/// How often each thing that may be special about a filling that does not clash must have come up.
+const LEAST_OF_EACH_WHY: usize = 800;
 
 /// How long a buffer is that takes a whole file.
 const FILE_ROOMS: [&str; 2] = ["just long enough", "longer"];
@@ -27,16 +32,12 @@ pub struct Test {
     book: Tally,
     shapes: Tally,
     faults: Tally,
+    whys: Tally,
 }
 
 impl Test {
     pub fn new() -> Test {
-        let check_answers = [
-            "clash",
-            "no clash, the first pair differs",
-            "no clash, a later pair is the first to differ",
-            "no clash, only a rule breaks",
-        ];
+        let check_answers = [&["clash"], &whys::KINDS[..]].concat();
         let spell_answers = ["empty text", "text of 1 to 23", "text of 24"];
         Test {
             random: Random::new(1),
@@ -49,6 +50,7 @@ impl Test {
             book: Tally::new("tpl_book", &listed::BOOK_KINDS, 40..=42),
             shapes: Tally::new("counted sheets with", &shapes::names(shapes::ALL), 0..0),
             faults: listed::faults(),
+            whys: whys::tally(),
         }
     }
 
@@ -86,18 +88,16 @@ impl Test {
         self.read.count(answer);
     }
 
-    /// Compares how a filling is checked.
+    /// Compares how a filling is checked, and where it does not clash, why.
     pub fn check(&mut self, sheet: &[u8], filling: &[u8]) {
-        let (status, answer) = match speller::check(sheet, filling) {
-            Ok(Verdict::Clash) => (1, Ok("clash")),
-            Ok(Verdict::PairDiffers(0)) => (0, Ok("no clash, the first pair differs")),
-            Ok(Verdict::PairDiffers(_)) => (0, Ok("no clash, a later pair is the first to differ")),
-            Ok(Verdict::RuleBreaks(_)) => (0, Ok("no clash, only a rule breaks")),
-            Err(refusal) => (status(refusal), Err(refusal as u8)),
-        };
+        let plain = speller::check(sheet, filling);
         let case: &Case = &[("sheet", &Hex(sheet)), ("filling", &Hex(filling))];
-        hold(engine::check(sheet, filling), due(status, &[]), case);
-        self.check.count(answer);
+        hold(engine::check(sheet, filling), check_due(plain), case);
+        self.check.count(check_answer(plain));
+        if matches!(plain, Ok(verdict) if verdict != Verdict::Clash) {
+            let (sheet, filling) = (reader::accepted(sheet), fillings::decode(filling));
+            whys::count(&mut self.whys, &sheet, &filling);
+        }
     }
 
     /// Compares how a template is spelled.
@@ -205,6 +205,7 @@ impl Test {
         for tally in self.calls().into_iter().chain(beside) {
             tally.finish();
         }
+        self.whys.finish_at(LEAST_OF_EACH_WHY);
         println!(
             "outside: the library agrees on {} sheets, {} fillings, {} spellings, {} clause counts, \
              {} lines, {} files and {} lists",
@@ -222,6 +223,26 @@ impl Test {
 /// What a call returns for a refusal.
 pub fn status(refusal: Refusal) -> i64 {
     -(refusal as i64)
+}
+
+/// The plain answer to a check in a word.
+fn check_answer(plain: Result<Verdict, Refusal>) -> Answer {
+    let verdict = plain.map_err(|refusal| refusal as u8)?;
+    let word = |why: [u64; 5]| {
+        let kind = whys::kind(&why).expect("numbers in their ranges");
+        whys::KINDS[kind]
+    };
+    Ok(verdict.why().map_or("clash", word))
+}
+
+/// What a check is to answer and leave behind, by the plain answer: it writes five numbers, or none.
+pub fn check_due(plain: Result<Verdict, Refusal>) -> Outcome<u64> {
+    let untouched = engine::WHY_BEFORE;
+    match plain.map(|verdict| verdict.why()) {
+        Ok(None) => due(1, &untouched),
+        Ok(Some(why)) => due(0, &why),
+        Err(refusal) => due(status(refusal), &untouched),
+    }
 }
 
 /// What a call is to answer and leave behind.

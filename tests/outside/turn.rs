@@ -1,5 +1,6 @@
 //! One turn of the fuzzer: all calls on one input, and what must hold between their answers. It
-//! compares the library with itself alone; plain code only makes some more fillings to try.
+//! compares the library with itself. Plain code makes some more fillings to try, and only how a filling
+//! is checked is held to it.
 
 use crate::calls::{Calls, Reached};
 use crate::engine::{filling_bytes, Outcome};
@@ -10,13 +11,17 @@ use crate::order;
 use crate::random::Random;
 use crate::reader;
 use crate::report::{require, Case, Hex};
-use crate::speller::Spelling;
+use crate::speller::{self, Spelling, LEFT, RIGHT};
+use crate::test;
+use crate::whys;
 use std::mem;
 
 /// The first so many bytes of a sheet decide.
 const DECIDING: usize = 160;
 /// How often a filling that checks as a clash is spelled too.
 const CLASH_PERCENT: usize = 20;
+/// How often what is said to be against a clash is held to what is spelled.
+const AGAINST_PERCENT: usize = 10;
 /// How many fillings are tried of a sheet that is apart.
 const FILLINGS_TRIED: usize = 3;
 
@@ -30,7 +35,7 @@ pub struct Turn<'a> {
 /// What the calls on the input answered.
 pub struct Answers {
     pub read: Outcome<u64>,
-    pub check: i64,
+    pub check: Outcome<u64>,
     pub spell: i64,
     pub search: Outcome<u8>,
     pub count: Outcome<u64>,
@@ -49,6 +54,7 @@ impl Turn<'_> {
         self.sheet_refusals(&answers);
         if answers.read.status == 0 {
             self.clashes(&answers);
+            self.against(&answers);
             self.beyond(&answers);
             self.buffers(&answers);
             self.lines(&answers.count.lent);
@@ -64,7 +70,7 @@ impl Turn<'_> {
         let sheet = &input.sheet[..];
         Answers {
             read: self.calls.read(sheet),
-            check: self.calls.check(sheet, &input.filling).status,
+            check: self.check(&input.filling),
             spell: self.calls.spell(input.spelling(input.room)).status,
             search: self.calls.search(sheet, input.room),
             count: self.calls.count(sheet),
@@ -73,6 +79,24 @@ impl Turn<'_> {
             reply: self.calls.reply(sheet, &input.reply, input.room),
             book: self.calls.book(&input.book, input.room),
         }
+    }
+
+    /// Checks a filling of the input's sheet. Plain code has to give the same answer.
+    fn check(&mut self, filling: &[u8]) -> Outcome<u64> {
+        let sheet = &self.input.sheet[..];
+        let got = self.calls.check(sheet, filling);
+        let due = test::check_due(speller::check(sheet, filling));
+        require(
+            got == due,
+            "plain code checks a filling otherwise",
+            &[
+                ("sheet", &Hex(sheet)),
+                ("filling", &Hex(filling)),
+                ("plain", &due),
+                ("library", &got),
+            ],
+        );
+        got
     }
 
     /// The first 160 bytes decide, and what `tpl_read` refuses every call refuses with its number.
@@ -84,7 +108,7 @@ impl Turn<'_> {
             self.require(start == read, "later bytes decide", read, start);
         }
         for status in [
-            answers.check,
+            answers.check.status,
             answers.spell,
             answers.search.status,
             answers.count.status,
@@ -105,28 +129,50 @@ impl Turn<'_> {
     /// is apart nothing does.
     fn clashes(&mut self, answers: &Answers) {
         let pairs = answers.read.lent[2];
+        let check = answers.check.status;
         let (search, reply) = (&answers.search, &answers.reply);
         if search.status == 1 {
             self.require_clash(&search.lent, pairs);
             if reply.status == 0 {
                 self.require_first(&search.lent, &reply.lent);
             }
-            if answers.check == 1 {
+            if check == 1 {
                 self.require_first(&search.lent, &self.input.filling);
             }
         }
         if reply.status == 0 {
             self.require_clash(&reply.lent, pairs);
         }
-        if answers.check == 1 && self.random.chance(CLASH_PERCENT) {
+        if check == 1 && self.random.chance(CLASH_PERCENT) {
             self.require_clash(&self.input.filling, pairs);
         }
         if search.status == 0 {
-            let none = answers.check != 1 && reply.status != 0;
+            let none = check != 1 && reply.status != 0;
             let reason = "a clash in a sheet that is apart";
-            self.require(none, reason, answers.check, reply.status);
+            self.require(none, reason, check, reply.status);
             self.try_fillings();
         }
+    }
+
+    /// Now and then, what is first against a clash is held to what is spelled. All pairs before the one
+    /// that is told spell one text, where a rule is told all do, and what is left over fits the texts.
+    fn against(&mut self, answers: &Answers) {
+        let check = &answers.check;
+        if check.status != 0 || !self.random.chance(AGAINST_PERCENT) {
+            return;
+        }
+        let filling = &self.input.filling[..];
+        let mut texts = |pair| [LEFT, RIGHT].map(|side| self.spelled(filling, pair, side).1);
+        let same = |[left, right]: [Vec<u8>; 2]| left == right;
+        let fits = match check.lent[..] {
+            [1, pair, agreeing, side, length] => {
+                (0..pair).all(|before| same(texts(before)))
+                    && whys::fits(&texts(pair), agreeing, side, length)
+            }
+            _ => (0..answers.read.lent[2]).all(|pair| same(texts(pair))),
+        };
+        let reason = "what is said to be against a clash does not fit the texts";
+        self.require(fits, reason, check.lent[0] as i64, check.lent[1] as i64);
     }
 
     /// No clash is before the one that the search gives.
@@ -165,9 +211,8 @@ impl Turn<'_> {
     /// A filling that was handed over, or that checks as a clash: it checks as one, and both sides of
     /// every pair spell the same.
     fn require_clash(&mut self, handed: &[u8], pairs: u64) {
-        let sheet = &self.input.sheet[..];
-        let filling = &handed[..filling_bytes(sheet)];
-        let check = self.calls.check(sheet, filling).status;
+        let filling = &handed[..filling_bytes(&self.input.sheet)];
+        let check = self.check(filling).status;
         self.require(
             check == 1,
             "what is handed over as a clash is none",
@@ -175,18 +220,7 @@ impl Turn<'_> {
             check,
         );
         for pair in 0..pairs {
-            let mut side = |side| {
-                let room = LONGEST_TEXT;
-                let spelled = self.calls.spell(Spelling {
-                    sheet,
-                    pair,
-                    side,
-                    filling,
-                    room,
-                });
-                (spelled.status, spelled.lent)
-            };
-            let (left, right) = (side(0), side(1));
+            let [left, right] = [LEFT, RIGHT].map(|side| self.spelled(filling, pair, side));
             self.require(
                 left.0 >= 0,
                 "a template of a clash is not spelled",
@@ -197,13 +231,25 @@ impl Turn<'_> {
         }
     }
 
+    /// What spelling one side of a pair answers, and the text.
+    fn spelled(&mut self, filling: &[u8], pair: u64, side: u64) -> (i64, Vec<u8>) {
+        let mut got = self.calls.spell(Spelling {
+            sheet: &self.input.sheet,
+            pair,
+            side,
+            filling,
+            room: LONGEST_TEXT,
+        });
+        got.lent.truncate(got.status.max(0) as usize);
+        (got.status, got.lent)
+    }
+
     /// Some fillings of a sheet that is apart.
     fn try_fillings(&mut self) {
-        let sheet = &self.input.sheet[..];
-        let accepted = reader::accepted(sheet);
+        let accepted = reader::accepted(&self.input.sheet);
         for _ in 0..FILLINGS_TRIED {
             let filling = fillings::encode(&fillings::legal(self.random, &accepted));
-            let check = self.calls.check(sheet, &filling).status;
+            let check = self.check(&filling).status;
             self.require(
                 check == 0,
                 "a filling of a sheet that is apart clashes",
