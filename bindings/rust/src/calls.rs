@@ -397,7 +397,7 @@ mod tests {
         assert_eq!(checked(&[A, A, A], &[B, A]), differs(0, 0, Side::Left, 3));
         assert_eq!(checked(&[A, B, A], &[A, A]), differs(0, 1, Side::Left, 2));
         assert_eq!(checked(&[A, A], &[A, B]), differs(0, 1, Side::Left, 1));
-        // ab against acd: it is the left rest, though the right one is longer.
+        // AB against AAB: it is the left rest, though the right one is longer.
         assert_eq!(checked(&[A, B], &[A, A, B]), differs(0, 1, Side::Left, 1));
     }
 

@@ -13,7 +13,7 @@ use Rattle.calls.proofs.Read.{reading-accepted, reading-counts}
 use Rattle.calls.proofs.Refusals.{refusal-numbers, checking-cases, spelling-refused}
 use Rattle.calls.proofs.Operations.{Sized}
 use Rattle.calls.proofs.Passed.{FillingOf, answered, passed-solves, solves-passed}
-use Rattle.calls.proofs.LeftOver.{FirstDiffers, FirstBroken, Told, a-clash, a-pair, a-rule, one-of-three}
+use Rattle.calls.proofs.LeftOver.{FirstDiffers, FirstBroken, Told, a-clash, a-pair, a-rule, no-other-answer}
 use Rattle.c_answer.specs.Returned.{returned, returnedNumber, arrayAfter, Explained}
 use Rattle.c_answer.proofs.Told.{zero-finished, negative, pos-equal, length-told}
 
@@ -80,7 +80,7 @@ module _ (b m : List ℕ) (y : Bytes b) (r : ℤ) (before after : List ℕ) (cal
   zero-tells-why e =
       let c = zero-none b m (sym (call .0) ∙ e) .1 in
       let a = answered b m y c in
-      by-answer (a .substitution) (a .is-filling) c (one-of-three b m y (a .substitution) (a .is-filling))
+      by-answer (a .substitution) (a .is-filling) c (no-other-answer b m y (a .substitution) (a .is-filling))
     where
       by-answer : {why : List ℕ} (g : Substitution) (f : FillingOf b m g) → checking b m ≡ finished (0 ∷ why) → Told b m y g f → Why
       by-answer g f c (a-clash e k) = let q = sym c ∙ e in let z : _≡_ {A = ℕ} 0 1 = cc in absurd (omega arith)

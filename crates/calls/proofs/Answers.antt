@@ -65,7 +65,7 @@ infix 5 _checks_
 abbrev pub checked : List Check
 checked =
     (empty ++ empty checks finished (1 ∷ []))
-    -- X=A, Y empty: AA against A. X=B, Y=A: BAA against AA. X=BB, Y=B: BBAB against AB. One letter agrees, and then none; both times the left text has more
+    -- X=A, Y empty: AA against A, one letter agrees. X=B, Y=A: BAA against AA, and X=BB, Y=B: BBAB against AB, none does
     ∷ (nine 1 0 255 ++ empty checks finished (0 ∷ 1 ∷ 0 ∷ 1 ∷ 0 ∷ 1 ∷ []))
     ∷ (nine 1 1 255 ++ nine 1 0 255 checks finished (0 ∷ 1 ∷ 0 ∷ 0 ∷ 0 ∷ 3 ∷ []))
     ∷ (nine 2 1 1 ++ nine 1 1 255 checks finished (0 ∷ 1 ∷ 0 ∷ 0 ∷ 0 ∷ 4 ∷ []))

@@ -10,7 +10,7 @@ use lib.Seq.{drop-cons, getD-take, getD-drop}
 use borrow.Author.Tests.{ltb-true, ltb-false, leb-true, leb-false, eqb-true}
 use Rattle.model.specs.Sheet as sheet
 use Rattle.model.specs.Sheet.{Sheet, Step, got, fault, _then_, must, Role, letterByte, limitByte, countByte, templateByte, coefficientByte, mostByte, passes, refusalOf, width, row, times, sides, anEquation, aConstraint, walk, opening, byte, Counts, countsAt, ended, read, countsOf, sheetOf}
-use Rattle.model.specs.Word.{Substitution, solves}
+use Rattle.model.specs.Word.{Substitution}
 use Rattle.model.specs.Mismatch.{judged}
 use Rattle.model.specs.Filling.{places, aText, texts, filling, encodeFilling, substitutionIn}
 use Rattle.formula.specs.Dimacs.{line, file}

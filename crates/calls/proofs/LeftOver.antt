@@ -4,11 +4,11 @@ use mathlib.Core.Path.{_≡_, refl, sym, ap, subst, _∙_}
 use mathlib.Core.Logic.{_↔_}
 use mathlib.Core.Bool.{true, false}
 use mathlib.Core.List.{List, [], _∷_, _++_}
-use Prim.Native.Nat.{ℕ, _<_, _≤_}
+use Prim.Native.Nat.{ℕ, zero, suc, _+_, _<_, _≤_}
 use native.Mathlib.Omega.{arith}
 use lib.Dec.{ltb}
 use lib.IntN.{pos}
-use lib.ListN.{length, take, take-append-drop}
+use lib.ListN.{length, take, length-drop, take-append-drop}
 use borrow.Author.Tests.{ltb-true, ltb-false}
 use Rattle.model.specs.Lists.{All, Bytes}
 use Rattle.model.specs.Sheet as sheet
@@ -18,7 +18,9 @@ use Rattle.model.specs.Mismatch.{agreeing, restSide, restWord, Judgement, solut
 use Rattle.model.specs.Filling.{filling}
 use Rattle.calls.specs.Calls.{finished, ofSheet, ofFilling, judgementValues, checking, verdict, decision}
 use Rattle.model.proofs.Lists.{never, by-test, weaken, all-out, all-in}
-use Rattle.model.proofs.Words.{equation-out, equation-in, constraint-out, constraint-in}
+use Rattle.model.proofs.Known.{accepted-in-range}
+use Rattle.model.proofs.Templates.{template-room}
+use Rattle.model.proofs.Words.{same-word-equal, equal-same-word, equation-out, equation-in, constraint-out, constraint-in}
 use Rattle.model.proofs.Mismatches.{agree-left, agree-right, agree-same, agree-most, rest-left, rest-right, same-all-agree, same-none-left, none-left-same}
 use Rattle.model.proofs.Leading.{leading-pass, leading-fails, all-lead, not-all-lead, leading-only}
 use Rattle.model.proofs.Judged.{solves-judged, PairTold, RuleTold, told-pair, pair-told, told-rule, rule-told}
@@ -156,24 +158,46 @@ module _ (b m : List ℕ) (y : Bytes b) (g : Substitution) (h : FillingOf b m g)
     λ f. checking-judges b m y g h ∙ ap (λ j. finished (judgementValues j)) (told-rule (sheetOf b) g r (rule-in (sheetOf b) g r f)),
   )
 
-  -- There is no fourth answer to a filling: a clash, a pair that differs, or a rule broken.
+  -- What is left over of a pair that differs is never nothing; and the numbers are those of a text, which has at most 24 letters.
+  pub something-is-left-over : (p n side rest : ℕ) → FirstDiffers (sheetOf b) g p n side rest → 1 ≤ rest
+  something-is-left-over p n side zero f = absurd (f .not-the-same (none-left-same (sheetOf b) _ _ (sym (f .left-over))))
+  something-is-left-over p n side (suc rest) f = omega arith
+
+  pub numbers-of-a-text : (p n side rest : ℕ) → FirstDiffers (sheetOf b) g p n side rest → (side ≤ 1) × (n + rest ≤ 24)
+  numbers-of-a-text p n side rest f =
+      let s = sheetOf b in
+      let u = spell g (equation s p .left) in
+      let w = spell g (equation s p .right) in
+      let room = template-room s (accepted-in-range b y (h .accepted)) p (f .is-pair) g (h .legal) in
+      by-test (ltb (agreeing s u w) (length u))
+      (λ t.
+      let r = rest-left s u w (ltb-true (agreeing s u w) (length u) t) in
+      (omega (arith, f .on-side, r .0), omega (arith, f .count, f .left-over, ap length (r .1), length-drop (agreeing s u w) u, agree-left s u w, room 0)))
+      (λ t.
+      let r = rest-right s u w (ltb-false (agreeing s u w) (length u) t) in
+      (omega (arith, f .on-side, r .0), omega (arith, f .count, f .left-over, ap length (r .1), length-drop (agreeing s u w) w, agree-right s u w, room 1)))
+
+  -- There is no other answer to a filling: a clash, a pair that differs, or a rule broken.
   pub data Told : Type 0 where
     a-clash : checking b m ≡ finished (1 ∷ []) → Solves (sheetOf b) g → Told
     a-pair : (p n side rest : ℕ) → checking b m ≡ finished (0 ∷ 1 ∷ p ∷ n ∷ side ∷ rest ∷ []) → FirstDiffers (sheetOf b) g p n side rest → Told
     a-rule : (r : ℕ) → checking b m ≡ finished (0 ∷ 2 ∷ r ∷ 0 ∷ 0 ∷ 0 ∷ []) → FirstBroken (sheetOf b) g r → Told
 
-  pub one-of-three : Told
-  one-of-three = by-case (judged (sheetOf b) g) (checking-judges b m y g h)
+  pub no-other-answer : Told
+  no-other-answer = by-case (judged (sheetOf b) g) (checking-judges b m y g h)
     where
       by-case : (j : Judgement) → checking b m ≡ finished (judgementValues j) → Told
       by-case solution e = a-clash e (passed-solves b m y g h e)
       by-case (differs p n side rest) e = a-pair p n side rest e (for-the-first-pair-that-differs p n side rest .0 e)
       by-case (breaks r) e = a-rule r e (or-else-for-the-first-rule-broken r .0 e)
 
--- "Search and reply use the same comparison and answer as before." What both ask of a filling is whether it solves the sheet: that is what the comparison tells, pair
--- by pair. What they answer is stated by that test alone, as it was.
+-- "Search and reply use the same comparison and answer as before." What both ask of a filling is whether it solves the sheet. A pair holds where nothing is left
+-- over, and that is where its two texts are equal, as before; a filling solves the sheet where no cause is told.
 pub the-same-comparison : (s : Sheet) (g : Substitution) (e : Equation) → EquationHolds s g e ↔ (restWord s (spell g (e .left)) (spell g (e .right)) ≡ [])
 the-same-comparison s g e = nothing-left-exactly s (spell g (e .left)) (spell g (e .right))
+
+pub equal-texts-as-before : (s : Sheet) (g : Substitution) (e : Equation) → EquationHolds s g e ↔ (spell g (e .left) ≡ spell g (e .right))
+equal-texts-as-before s g e = (same-word-equal s (spell g (e .left)) (spell g (e .right)), equal-same-word s (spell g (e .left)) (spell g (e .right)))
 
 pub the-same-test : (s : Sheet) (g : Substitution) → (solves s g ≡ true) ↔ (judged s g ≡ solution)
 the-same-test s g = ((λ e. only (judged s g) (sym (solves-judged s g) ∙ e)), λ e. solves-judged s g ∙ ap isSolution e)

@@ -108,8 +108,8 @@ unfoldable pub searching : List ℕ → ℕ → Answer
 searching b room = ofSheet (read b) (λ s. searchingOf s room)
 
 -- A call that answers the first of its values and hands the others over: "A clash fills the first 9 × V bytes and no more; apart changes none." Refused, "no
--- lent byte changes". A book's list (below) is another, and so is checking, whose cause goes to a lent array. `Decides` says both of an answer and of a buffer before and after. The first of the values; and those that
--- follow it.
+-- lent byte changes". A book's list (below) is another, and so is checking, whose cause goes to a lent array. `Decides` says both of an answer and of a
+-- buffer before and after. The first of the values; and those that follow it.
 abbrev pub decision : Answer → Answer
 decision (refused n) = refused n
 decision (finished values) = finished (take 1 values)

@@ -28,7 +28,7 @@ fn rest_side(agreeing: usize, left: usize) -> usize
 }
 
 // Compares two words.
-pub fn compare<'a>(left: &'a [u8], right: &'a [u8]) -> Mismatch
+fn compare<'a>(left: &'a [u8], right: &'a [u8]) -> Mismatch
     ensures { λ r. ⌜ ((s : Sheet) → Compares s (now (left .entry)) (now (right .entry)) r) ⌝ }
 {
     let agreeing = words::agreeing(left, right);

@@ -3,16 +3,15 @@ use mathlib.Core.Path.{_≡_, refl}
 use mathlib.Core.List.{List, [], _∷_, map}
 use Prim.Native.Nat.{ℕ}
 use lib.IntN.{pos, negℤ}
-use lib.ListN.{length}
 use Rattle.model.specs.Lists.{each, leading}
 use Rattle.model.specs.Sheet.{Sheet, letter, field}
 use Rattle.model.specs.Word.{Substitution, spell, weight, sameLetter, sameWord, equationHolds, constraintHolds}
 use Rattle.model.specs.Mismatch.{agreeing, restSide, restWord, Judgement, solution, differs, breaks, judged}
 
--- over a, b and c, numbered 0 to 2, the fields X, Y of limit 3; X against aY, and XY against YX; the rules X + Y at most 4, and X - Y at most 0
+-- over a, b, c and d, numbered 0 to 3, the fields X, Y of limit 3; X against aY, and XY against YX; the rules X + Y at most 4, and X - Y at most 0
 abbrev twoPairs : Sheet
 twoPairs = record {
-  letters = 97 ∷ 98 ∷ 99 ∷ [];
+  letters = 97 ∷ 98 ∷ 99 ∷ 100 ∷ [];
   limits = 3 ∷ 3 ∷ [];
   equations =
       record { left = field 0 ∷ []; right = letter 0 ∷ field 1 ∷ [] }

@@ -1,8 +1,6 @@
 -- What a substitution comes to (specs/Mismatch): a solution exactly when the tests of specs/Word pass; and by its cases, as code goes through them and as
 -- document 02's No. 5 tells them. Assumes nothing.
-use mathlib.Core.Path.{_≡_, refl, sym, ap, ap₂, subst, _∙_}
-use mathlib.Core.Bool.{true, false, _&&_}
-use mathlib.Core.List.{[]}
+use mathlib.Core.Path.{_≡_, sym, ap, ap₂, subst, _∙_}
 use Prim.Native.Nat.{ℕ, _<_, _≤_}
 use native.Mathlib.Omega.{arith}
 use lib.Dec.{ltb}

@@ -12,11 +12,6 @@ use Rattle.model.specs.Lists.{leading, all, All}
 use Rattle.model.proofs.Lists.{by-test}
 
 module _ {A : Type 0} (p : A → Bool) where
-  pub leading-short : (xs : List A) → leading p xs ≤ length xs
-  unfolding leading
-  leading-short [] = omega arith
-  leading-short (x ∷ xs) = by-test (p x) (λ t. rw t (let h = leading-short xs in omega arith)) (λ t. rw t (omega arith))
-
   -- those before the first that fails pass
   pub leading-pass : (xs : List A) → All (λ x. p x ≡ true) (take (leading p xs) xs)
   unfolding leading All

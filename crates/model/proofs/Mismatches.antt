@@ -1,18 +1,17 @@
 -- The comparison of two texts (specs/Mismatch): letter by letter from index i on, as code goes; how many letters agree, as the greatest number of them that are
 -- the same from the start; and that two words are the same text exactly when nothing is left over. Assumes nothing.
-use mathlib.Core.Path.{_≡_, refl, sym, ap, subst, _∙_}
-use mathlib.Core.Bool.{true, false, _&&_}
-use mathlib.Core.List.{List, [], _∷_, _++_}
+use mathlib.Core.Path.{_≡_, refl, sym, ap, _∙_}
+use mathlib.Core.Bool.{true}
+use mathlib.Core.List.{List, [], _∷_}
 use Prim.Native.Nat.{ℕ, zero, suc, _+_, _-_, _<_, _≤_}
 use native.Mathlib.Omega.{arith}
 use native.Mathlib.Numerals.{add-one}
-use lib.Dec.{eqb, ltb}
+use lib.Dec.{eqb}
 use lib.ListN.{length, getD, take, drop, length-drop, drop-of-length-le}
 use lib.Seq.{drop-cons, take-all}
 use borrow.Author.Tests.{eq-eqb, ne-eqb, ltb-true, ltb-false, lt-ltb, le-ltb}
-use Rattle.model.specs.Lists.{pick}
 use Rattle.model.specs.Sheet.{Sheet}
-use Rattle.model.specs.Word.{SameLetter, SameWord, sameLetter, sameWord}
+use Rattle.model.specs.Word.{SameWord, sameLetter, sameWord}
 use Rattle.model.specs.Mismatch.{agreeing, leftLeft, restSide, restWord}
 use Rattle.model.proofs.Lists.{by-test, never, and-split}
 use Rattle.model.proofs.Words.{same-letter, same-word-length, same-word-out, same-word-in}

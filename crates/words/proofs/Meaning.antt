@@ -3,15 +3,11 @@ use mathlib.Core.Path.{_≡_, sym, ap, subst, _∙_}
 use mathlib.Core.List.{List, [], map}
 use Prim.Native.Nat.{ℕ, _+_, _<_, _≤_}
 use native.Mathlib.Omega.{arith}
-use lib.IntN.{natAbs}
 use lib.ListN.{length, List·getD-map}
 use lib.Seq.{getD-take}
 use Rattle.model.specs.Lists.{All}
-use Rattle.model.specs.Sheet.{sheetOf, template, symbolOf, symbolByte, constraint, coefficient}
-use Rattle.model.specs.Range.{ConstraintIn}
-use Rattle.model.specs.Word.{text, spell, weight}
-use Rattle.model.proofs.Lists.{at}
-use Rattle.model.proofs.Sums.{coefficient-small, weight-small}
+use Rattle.model.specs.Sheet.{sheetOf, template, symbolOf, symbolByte}
+use Rattle.model.specs.Word.{text, spell}
 use Rattle.model.proofs.Words.{Agree, spell-agree}
 use Rattle.model.proofs.Templates.{template-in, template-again, template-bytes, template-room}
 use Rattle.fields.specs.declared.Field.{Field}
@@ -46,16 +42,3 @@ module _ (b : List ℕ) (g : List Field) (ok : Held b g) where
     pub can-spell : All Whole g × All (λ x. x < 128 + 6) t × (length (spell (textsOf g) (map symbolOf t)) ≤ 24)
     can-spell =
         (ok .whole, subst (All (λ x. x < 128 + 6)) (sym e) (template-bytes (sheetOf b) (ok .in-range) p h side), rw word-is (template-room (sheetOf b) (ok .in-range) p h (meaning b g) (ok .legal) side))
-
-  -- a constraint: its coefficients are small, and so is its sum over the first k fields
-  module _ (r : ℕ) (h : r < length (sheetOf b .constraints)) where
-    pub limited : ConstraintIn (length (sheetOf b .limits)) (constraint (sheetOf b) r)
-    limited = at _ (sheetOf b .constraints) r _ (ok .in-range .constraints-in) h
-
-    pub small-at : (f : ℕ) → natAbs (coefficient (constraint (sheetOf b) r) f) ≤ 4
-    small-at = coefficient-small (constraint (sheetOf b) r) (meaning b g) (limited .small)
-
-    pub sum-small : (k : ℕ) → k ≤ length (sheetOf b .limits) → natAbs (weight (constraint (sheetOf b) r) (meaning b g) k) ≤ 192
-    sum-small k l =
-        let n = weight-small (constraint (sheetOf b) r) (meaning b g) (limited .small) k (λ f j. short-at f (omega arith)) in
-        omega (arith, ok .in-range .counts-in .of-fields)

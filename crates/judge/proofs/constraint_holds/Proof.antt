@@ -8,7 +8,7 @@ use Rattle.model.specs.Sheet.{sheetOf, constraint}
 use Rattle.model.specs.Word.{weight, constraintHolds}
 use Rattle.scan.proofs.Machine.{small-back}
 use Rattle.fields.specs.Memory.{meaning}
-use Rattle.words.proofs.Meaning.{limited, sum-small}
+use Rattle.judge.proofs.Weights.{limited, sum-small}
 use Rattle.scan.proofs.Terms.{most-back}
 use Rattle.judge.proofs.constraint_holds.Statement.{statement}
 use Rattle.judge.proofs.constraint_holds.Tie as tie

@@ -1,5 +1,5 @@
 -- `judge::judge` meets its contract: the first equation whose words differ, else the first constraint that does not hold, else a solution. Assumes nothing.
-use mathlib.Core.Path.{_≡_, sym, ap, _∙_}
+use mathlib.Core.Path.{sym}
 use Prim.Native.Nat.{_≤_}
 use native.Mathlib.Omega.{arith}
 use lib.ListN.{length}

@@ -12,7 +12,8 @@ use Rattle.model.specs.Word.{weight}
 use Rattle.model.proofs.Sums.{weight-more}
 use Rattle.scan.proofs.Machine.{small-fits, small-back}
 use Rattle.fields.specs.Memory.{field, meaning}
-use Rattle.words.proofs.Meaning.{field-whole, length-at, small-at, sum-small}
+use Rattle.words.proofs.Meaning.{field-whole, length-at}
+use Rattle.judge.proofs.Weights.{small-at, sum-small}
 use Rattle.scan.proofs.Terms.{wide-fits, product-fits, product-back}
 use Rattle.judge.proofs.weigh.Statement.{statement}
 use Rattle.judge.proofs.weigh.Tie as tie

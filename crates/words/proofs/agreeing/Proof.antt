@@ -1,5 +1,5 @@
 -- `words::agreeing` meets its contract. The loop's invariant: all letters before i agree, and the rests decide how many more do. Assumes nothing.
-use mathlib.Core.Path.{_≡_, refl, sym, ap, _∙_}
+use mathlib.Core.Path.{_≡_}
 use Prim.Native.Nat.{_+_, _-_, _≤_}
 use native.Mathlib.Omega.{arith}
 use lib.ListN.{length, drop}
