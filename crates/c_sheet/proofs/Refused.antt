@@ -30,4 +30,4 @@ module _ (b : List ℕ) (r : ℤ) (before after : List ℕ) where
       same c d = let q = sym c ∙ d in cc
 
       from-one : (n : ℕ) → checking b m ≡ refused n → 1 ≤ n
-      from-one n e = checking-cases b m (λ c. not-finished (sym e ∙ c)) (λ why l c. not-finished (sym e ∙ c)) (λ k c h. let z : k ≡ n = same c e in rw (sym z) h)
+      from-one n e = checking-cases b m (λ c. not-finished (sym e ∙ c)) (λ why c. not-finished (sym e ∙ c)) (λ k c h. let z : k ≡ n = same c e in rw (sym z) h)

@@ -28,14 +28,14 @@ accepted-zero b h = ap returned (reading-counts b h)
 one-clash : (b m : List ℕ) → returnedNumber (checking b m) ≡ pos 1 → checking b m ≡ finished (1 ∷ [])
 one-clash b m e =
     checking-cases b m (λ c. c)
-    (λ why l c. let z : _≡_ {A = ℕ} 0 1 = pos-equal (sym (ap returnedNumber c) ∙ e) in absurd (omega arith))
+    (λ why c. let z : _≡_ {A = ℕ} 0 1 = pos-equal (sym (ap returnedNumber c) ∙ e) in absurd (omega arith))
     (λ n c h. negative n h (sym (ap returnedNumber c) ∙ e))
 
 zero-none : (b m : List ℕ) → returnedNumber (checking b m) ≡ pos 0 → (why : List ℕ) × (checking b m ≡ finished (0 ∷ why))
 zero-none b m e =
     checking-cases b m
     (λ c. let z : _≡_ {A = ℕ} 1 0 = pos-equal (sym (ap returnedNumber c) ∙ e) in absurd (omega arith))
-    (λ why l c. (why, c))
+    (λ why c. (why, c))
     (λ n c h. negative n h (sym (ap returnedNumber c) ∙ e))
 
 -- over `Solves`, both ways

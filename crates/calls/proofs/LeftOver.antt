@@ -2,7 +2,7 @@
 -- bytes, and of what the call's contract says. Assumes nothing.
 use mathlib.Core.Path.{_≡_, refl, sym, ap, subst, _∙_}
 use mathlib.Core.Logic.{_↔_}
-use mathlib.Core.Bool.{true, false}
+use mathlib.Core.Bool.{true}
 use mathlib.Core.List.{List, [], _∷_, _++_}
 use Prim.Native.Nat.{ℕ, zero, suc, _+_, _<_, _≤_}
 use native.Mathlib.Omega.{arith}
@@ -12,7 +12,7 @@ use lib.ListN.{length, take, length-drop, take-append-drop}
 use borrow.Author.Tests.{ltb-true, ltb-false}
 use Rattle.model.specs.Lists.{All, Bytes}
 use Rattle.model.specs.Sheet as sheet
-use Rattle.model.specs.Sheet.{Sheet, Equation, Constraint, Step, got, fault, Reading, read, equation, constraint, sheetOf}
+use Rattle.model.specs.Sheet.{Sheet, Equation, Step, got, fault, Reading, read, equation, constraint, sheetOf}
 use Rattle.model.specs.Word.{Substitution, spell, SameWord, EquationHolds, ConstraintHolds, Solves, equationHolds, constraintHolds, solves}
 use Rattle.model.specs.Mismatch.{agreeing, restSide, restWord, Judgement, solution, differs, breaks, isSolution, firstPair, judged}
 use Rattle.model.specs.Filling.{filling}
@@ -22,7 +22,7 @@ use Rattle.model.proofs.Known.{accepted-in-range}
 use Rattle.model.proofs.Templates.{template-room}
 use Rattle.model.proofs.Words.{same-word-equal, equal-same-word, equation-out, equation-in, constraint-out, constraint-in}
 use Rattle.model.proofs.Mismatches.{agree-left, agree-right, agree-same, agree-most, rest-left, rest-right, same-all-agree, same-none-left, none-left-same}
-use Rattle.model.proofs.Leading.{leading-pass, leading-fails, all-lead, not-all-lead, leading-only}
+use Rattle.model.proofs.Leading.{all-lead, not-all-lead, leading-have, leading-has-not, leading-first}
 use Rattle.model.proofs.Judged.{solves-judged, PairTold, RuleTold, told-pair, pair-told, told-rule, rule-told}
 use Rattle.calls.proofs.Passed.{decides, FillingOf, checking-judges, passed-solves}
 use Rattle.calls.proofs.Operations.{same-values}
@@ -78,20 +78,12 @@ pub record FirstBroken (s : Sheet) (g : Substitution) (r : ℕ) : Type 0 where
   pub does-not-hold : ConstraintHolds s g (constraint s r) → ⊥
 
 module _ (s : Sheet) (g : Substitution) where
-  fails : (e : Equation) → (EquationHolds s g e → ⊥) → equationHolds s g e ≡ false
-  fails e h = by-test (equationHolds s g e) (λ t. absurd (h (equation-out s g e t))) (λ t. t)
-
-  broken : (r : Constraint) → (ConstraintHolds s g r → ⊥) → constraintHolds s g r ≡ false
-  broken r h = by-test (constraintHolds s g r) (λ t. absurd (h (constraint-out s g r t))) (λ t. t)
-
   -- as `Judged.antt` has the two
   pair-out : (p n side rest : ℕ) → PairTold s g p n side rest → FirstDiffers s g p n side rest
   pair-out p n side rest t = record {
     is-pair = t .is-pair;
-    same-before = weaken _ (EquationHolds s g) (take p (s .equations)) (equation-out s g) (rw (t .is-first) at (leading-pass (equationHolds s g) (s .equations)));
-    not-the-same = λ e.
-        let no = leading-fails (equationHolds s g) (s .equations) (record { left = []; right = [] }) (omega (arith, t .is-first, t .is-pair)) in
-        never (sym (rw (t .is-first) at no) ∙ equation-in s g (equation s p) e);
+    same-before = leading-have (equationHolds s g) (EquationHolds s g) (equation-out s g) (equation-in s g) (s .equations) p (t .is-first);
+    not-the-same = leading-has-not (equationHolds s g) (EquationHolds s g) (equation-out s g) (equation-in s g) (s .equations) p (record { left = []; right = [] }) (t .is-first) (t .is-pair);
     count = t .agree;
     on-side = t .on-side;
     left-over = t .left-over;
@@ -99,8 +91,7 @@ module _ (s : Sheet) (g : Substitution) where
 
   pair-in : (p n side rest : ℕ) → FirstDiffers s g p n side rest → PairTold s g p n side rest
   pair-in p n side rest f = record {
-    is-first = leading-only (equationHolds s g) (s .equations) p (record { left = []; right = [] }) (f .is-pair)
-        (weaken (EquationHolds s g) _ (take p (s .equations)) (equation-in s g) (f .same-before)) (fails (equation s p) (f .not-the-same));
+    is-first = leading-first (equationHolds s g) (EquationHolds s g) (equation-out s g) (equation-in s g) (s .equations) p (record { left = []; right = [] }) (f .is-pair) (f .same-before) (f .not-the-same);
     is-pair = f .is-pair;
     agree = f .count;
     on-side = f .on-side;
@@ -111,10 +102,8 @@ module _ (s : Sheet) (g : Substitution) where
   rule-out r t = record {
     same-texts = weaken _ (EquationHolds s g) (s .equations) (equation-out s g) (all-out (equationHolds s g) (s .equations) (all-lead (equationHolds s g) (s .equations) (t .pairs-hold)));
     is-rule = t .is-rule;
-    hold-before = weaken _ (ConstraintHolds s g) (take r (s .constraints)) (constraint-out s g) (rw (t .is-first) at (leading-pass (constraintHolds s g) (s .constraints)));
-    does-not-hold = λ e.
-        let no = leading-fails (constraintHolds s g) (s .constraints) (record { coefficients = []; most = pos 0 }) (omega (arith, t .is-first, t .is-rule)) in
-        never (sym (rw (t .is-first) at no) ∙ constraint-in s g (constraint s r) e);
+    hold-before = leading-have (constraintHolds s g) (ConstraintHolds s g) (constraint-out s g) (constraint-in s g) (s .constraints) r (t .is-first);
+    does-not-hold = leading-has-not (constraintHolds s g) (ConstraintHolds s g) (constraint-out s g) (constraint-in s g) (s .constraints) r (record { coefficients = []; most = pos 0 }) (t .is-first) (t .is-rule);
   }
 
   rule-in : (r : ℕ) → FirstBroken s g r → RuleTold s g r
@@ -124,8 +113,7 @@ module _ (s : Sheet) (g : Substitution) where
         sym (not-all-lead (equationHolds s g) (s .equations) (ltb-true (firstPair s g) (length (s .equations)) t))
         ∙ all-in (equationHolds s g) (s .equations) (weaken (EquationHolds s g) _ (s .equations) (equation-in s g) (f .same-texts))))
         (λ t. ltb-false (firstPair s g) (length (s .equations)) t);
-    is-first = leading-only (constraintHolds s g) (s .constraints) r (record { coefficients = []; most = pos 0 }) (f .is-rule)
-        (weaken (ConstraintHolds s g) _ (take r (s .constraints)) (constraint-in s g) (f .hold-before)) (broken (constraint s r) (f .does-not-hold));
+    is-first = leading-first (constraintHolds s g) (ConstraintHolds s g) (constraint-out s g) (constraint-in s g) (s .constraints) r (record { coefficients = []; most = pos 0 }) (f .is-rule) (f .hold-before) (f .does-not-hold);
     is-rule = f .is-rule;
   }
 

@@ -172,12 +172,12 @@ writing-refused b k room = not-zero (writing b k room) (not-zero-sheet b _ (λ s
     not-zero-require (leb k (length (ids s))) 28 _ (omega arith)
     (not-zero-require (leb (length (line s k)) room) 29 _ (omega arith) tt)))
 
--- Checking answers 1; 0 and five numbers more; or a refusal whose number is not 0.
-module _ {P : Type 0} (b m : List ℕ) (clash : checking b m ≡ finished (1 ∷ []) → P) (none : (why : List ℕ) → length why ≡ 5 → checking b m ≡ finished (0 ∷ why) → P) (not-read : (n : ℕ) → checking b m ≡ refused n → 1 ≤ n → P) where
+-- Checking answers 1; 0 and more numbers; or a refusal whose number is not 0.
+module _ {P : Type 0} (b m : List ℕ) (clash : checking b m ≡ finished (1 ∷ []) → P) (none : (why : List ℕ) → checking b m ≡ finished (0 ∷ why) → P) (not-read : (n : ℕ) → checking b m ≡ refused n → 1 ≤ n → P) where
   by-judgement : (j : Judgement) → checking b m ≡ finished (judgementValues j) → P
   by-judgement solution e = clash e
-  by-judgement (differs p agree side rest) e = none _ refl e
-  by-judgement (breaks r) e = none _ refl e
+  by-judgement (differs p agree side rest) e = none _ e
+  by-judgement (breaks r) e = none _ e
 
   by-filling : (s : Sheet) (w : Step Substitution) → Numbered 20 23 w → checking b m ≡ ofFilling w (λ g. finished (judgementValues (judged s g))) → P
   by-filling s (got g xs) h e = by-judgement (judged s g) e

@@ -1,18 +1,12 @@
 -- `words::rest` meets its contract: the part of the one or the other word from the first letter on that does not agree. Assumes nothing.
-use mathlib.Core.Path.{_≡_, sym, ap, _∙_}
-use mathlib.Core.List.{List}
-use Prim.Native.Nat.{ℕ, _-_}
+use mathlib.Core.Path.{sym, ap, _∙_}
 use native.Mathlib.Omega.{arith}
-use lib.ListN.{length, take, drop, length-drop}
-use lib.Seq.{take-all}
+use lib.ListN.{drop}
 use borrow.Author.Needs.{needs}
+use Rattle.model.proofs.Seams.{tail-lent}
 use Rattle.model.proofs.Mismatches.{rest-left, rest-right}
 use Rattle.words.proofs.rest.Statement.{statement}
 use Rattle.words.proofs.rest.Tie as tie
-
--- a part to the end
-whole-rest : (w : List ℕ) (n : ℕ) → take (length w - n) (drop n w) ≡ drop n w
-whole-rest w n = take-all (length w - n) (drop n w) (omega (arith, length-drop n w))
 
 agreeing-requires : tie.Need-agreeing-requires
 agreeing-requires c κs = search needs
@@ -30,7 +24,7 @@ returns : tie.Need-returns
 returns c s =
     let a = c .before .before .before .before .before .args in
     let n = c .before .before .agreeing in
-    whole-rest (a .left .now) (n .result) ∙ ap (λ k. drop k (a .left .now)) (n .ensures .2 s) ∙ sym (rest-left s (a .left .now) (a .right .now) (omega (arith, n .ensures .2 s)) .1)
+    tail-lent (a .left .now) (n .result) ∙ ap (λ k. drop k (a .left .now)) (n .ensures .2 s) ∙ sym (rest-left s (a .left .now) (a .right .now) (omega (arith, n .ensures .2 s)) .1)
 
 sub-result-2 : tie.Need-sub-result-2
 sub-result-2 c = omega arith
@@ -45,7 +39,7 @@ returns-2 : tie.Need-returns-2
 returns-2 c s =
     let a = c .before .before .before .before .before .args in
     let n = c .before .before .agreeing in
-    whole-rest (a .right .now) (n .result) ∙ ap (λ k. drop k (a .right .now)) (n .ensures .2 s) ∙ sym (rest-right s (a .left .now) (a .right .now) (omega (arith, n .ensures .2 s)) .1)
+    tail-lent (a .right .now) (n .result) ∙ ap (λ k. drop k (a .right .now)) (n .ensures .2 s) ∙ sym (rest-right s (a .left .now) (a .right .now) (omega (arith, n .ensures .2 s)) .1)
 
 pub rest-spec : {M : Type 1} → statement M
 rest-spec =
