@@ -60,7 +60,11 @@ enum tpl_refusal {
     /* Of a book. */
     TPL_BOOK_MARK = 40,            /* under 5 bytes, or the first three bytes are not TPB, or the version is not 1 */
     TPL_BOOK_FAULT = 41,           /* a count, letter, limit, symbol or width is out of range, or bytes are missing or left over */
-    TPL_BUFFER_BELOW_LIST = 42     /* the buffer is shorter than the list */
+    TPL_BUFFER_BELOW_LIST = 42,    /* the buffer is shorter than the list */
+    /* Of the hours of a book's templates. */
+    TPL_HOURS_FAULT = 43,          /* the mark is not TPH, the version not 1, a count above TPL_WINDOWS_MOST, or bytes are missing or left over */
+    TPL_WINDOW = 44,               /* a window's start is not below its end, or its end is above TPL_WEEK_MINUTES */
+    TPL_WINDOW_ORDER = 45          /* a window starts before the preceding one of its template ends */
 };
 
 /* A sheet has a header of 9 bytes, letters, a limit for each field, pairs of templates, and rules. A template is a row of symbols: a letter's
@@ -203,6 +207,31 @@ int64_t tpl_reply(const uint8_t *sheet, size_t n, const uint8_t *reply, size_t m
  *   TPL_BOOK_MARK, TPL_BOOK_FAULT, TPL_BUFFER_BELOW_LIST
  */
 int64_t tpl_book(const uint8_t *book, size_t n, uint8_t *list, size_t cap);
+
+/* An hours file says when each template of a book is sent. It is the mark TPH, the version 1 in two bytes, and for each template of the book, in the
+ * book's order, a count of windows, 0 to TPL_WINDOWS_MOST, and the windows. A window is two minutes of the week, each in two bytes, the high byte first:
+ * its start, which is in it, and its end, which is not. Minutes count from 0, which is Monday 00:00, and the end of a window is at most TPL_WEEK_MINUTES,
+ * which is Sunday 24:00; a window across Sunday midnight is written as two. The windows of a template are in order: none starts before the preceding one
+ * ends, and it may start where that ends. A template without windows is never sent.
+ */
+#define TPL_HOURS_MOST 277     /* no accepted hours file has more bytes */
+#define TPL_WINDOWS_MOST 4     /* of one template */
+#define TPL_WEEK_MINUTES 10080
+
+/* Lists which templates of a book clash and share a minute, the book being n bytes and its hours m bytes. Two templates share a minute if it is in a
+ * window of the one and in a window of the other; a window that ends where another starts shares none with it. Returns the number of pairs of templates that
+ * clash, as tpl_book finds it, and share a minute. They are listed as tpl_book lists pairs: each once, two bytes i and j, by i and then by j, in
+ * the first bytes of the buffer of cap bytes, and the later ones are unchanged. A buffer of TPL_LIST_MOST is always long enough; an empty list fits an
+ * empty buffer. Two templates that clash and are not listed CAN spell the same text: it is their hours alone that
+ * keep them from it.
+ * Or it returns minus the number of the first refusal, in this order:
+ *   TPL_BOOK_MARK, TPL_BOOK_FAULT, TPL_HOURS_FAULT
+ * or else, of the first window that is at fault, template by template, in this order:
+ *   TPL_WINDOW, TPL_WINDOW_ORDER
+ * or else:
+ *   TPL_BUFFER_BELOW_LIST
+ */
+int64_t tpl_book_hours(const uint8_t *book, size_t n, const uint8_t *hours, size_t m, uint8_t *list, size_t cap);
 
 #ifdef __cplusplus
 }

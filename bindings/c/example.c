@@ -1,6 +1,7 @@
 /* Reads a sheet from the file named on the command line, searches it, and prints the first clash, or that there is none. With a text for each field
  * after the file's name it prints whether these texts clash, and why if they do not. A file that starts with TPB is a book: of this it prints
- * which templates clash. Without a file it asks a small book of its own.
+ * which templates clash, and with an hours file after the book's name which of them clash and share a minute. Without a file it asks a small book of
+ * its own, without hours and with them.
  *
  * After `rt staticlib engine`, this line builds it from the repository's folder:
  *
@@ -19,10 +20,16 @@
  * and `target/example` prints
  *
  *     templates 0 and 2 clash
+ *     no templates that clash share a minute
  *
- * Where nothing clashes it prints `apart`, and for bytes that are neither a sheet nor a book, or texts that the fields cannot have, `refused` and the
- * refusal's number, which include/lunthegyr.h explains. It ends with status 0 for an answer, 1 for a refusal, and 2 for a file that cannot be read
- * or more texts than any sheet has fields.
+ * and `target/example examples/shop-hours.tpb examples/shop-hours.tph` prints
+ *
+ *     templates 0 and 2 clash and share a minute
+ *     templates 0 and 5 clash and share a minute
+ *
+ * Where nothing clashes it prints `apart`, and for bytes that are neither a sheet nor a book, texts that the fields cannot have, or hours that are none,
+ * `refused` and the refusal's number, which include/lunthegyr.h explains. It ends with status 0 for an answer, 1 for a refusal, and 2 for a file that
+ * cannot be read or more texts than any sheet has fields.
  */
 #include <stdio.h>
 #include <string.h>
@@ -41,6 +48,22 @@ static const uint8_t shop[] = {
     2, 0, TPL_FIELD_SYMBOL,
     2, 4, 2,                                     /* fields of at most 4 and 2 */
     3, 3, TPL_FIELD_SYMBOL, TPL_FIELD_SYMBOL + 1
+};
+
+/* A minute of the week, of a day from 0 for Monday to 6 for Sunday, at an hour and a minute; and its two bytes. */
+#define OF_WEEK(day, hour, minute) (((day) * 24 + (hour)) * 60 + (minute))
+#define MINUTE(day, hour, minute) OF_WEEK(day, hour, minute) / 256, OF_WEEK(day, hour, minute) % 256
+
+/* When that shop sends them. There are people in it on Friday and Saturday from 09:00 to 17:30. The line is tested in the night from Sunday to Monday, and
+ * the weekly test starts when all have gone, so that it never shares a minute with a hold-up.
+ */
+static const uint8_t shop_hours[] = {
+    'T', 'P', 'H', 0, 1,                         /* the mark, and the version in two bytes */
+    2, MINUTE(4, 9, 0), MINUTE(4, 17, 30),       /* two windows; the end of a window is not in it */
+    MINUTE(5, 9, 0), MINUTE(5, 17, 30),
+    2, MINUTE(0, 0, 0), MINUTE(0, 6, 0),         /* across Sunday midnight, which makes two windows */
+    MINUTE(6, 22, 0), MINUTE(6, 24, 0),
+    1, MINUTE(5, 17, 30), MINUTE(5, 18, 0)
 };
 
 /* Reads a file's bytes into a buffer of cap bytes, as many as fit. Returns 1, with their number in *n; or 0 where the file cannot be read. */
@@ -84,20 +107,31 @@ static int refused(int64_t status) {
     return 1;
 }
 
-/* Prints which templates of a book clash. */
-static int ask_book(const uint8_t *book, size_t n) {
-    uint8_t list[TPL_LIST_MOST]; /* always long enough */
-    int64_t pairs = tpl_book(book, n, list, sizeof list);
+/* Prints what a book's call has returned and listed: that each of the pairs does so and so, or what is so where there are none. */
+static int print_list(int64_t pairs, const uint8_t *list, const char *each, const char *none) {
     if (pairs < 0) {
         return refused(pairs);
     }
     if (pairs == 0) {
-        puts("apart");
+        puts(none);
     }
     for (int64_t p = 0; p < pairs; p++) {
-        printf("templates %d and %d clash\n", list[2 * p], list[2 * p + 1]);
+        printf("templates %d and %d %s\n", list[2 * p], list[2 * p + 1], each);
     }
     return 0;
+}
+
+/* Prints which templates of a book clash. */
+static int ask_book(const uint8_t *book, size_t n) {
+    uint8_t list[TPL_LIST_MOST]; /* always long enough */
+    return print_list(tpl_book(book, n, list, sizeof list), list, "clash", "apart");
+}
+
+/* Prints which templates of a book clash and share a minute. Others may clash too, so where there are none the book need not be apart. */
+static int ask_hours(const uint8_t *book, size_t n, const uint8_t *hours, size_t m) {
+    uint8_t list[TPL_LIST_MOST]; /* always long enough */
+    int64_t pairs = tpl_book_hours(book, n, hours, m, list, sizeof list);
+    return print_list(pairs, list, "clash and share a minute", "no templates that clash share a minute");
 }
 
 /* Prints the first clash of a sheet. */
@@ -171,21 +205,31 @@ static int check_texts(const uint8_t *sheet, size_t n, char **texts, size_t coun
     return 0;
 }
 
+/* Says what words the program takes. */
+static int usage(void) {
+    fprintf(stderr, "usage: example [SHEET [TEXT..] | BOOK [HOURS]], where these are files that can be read, and each TEXT is for one field\n");
+    return 2;
+}
+
 int main(int argc, char **argv) {
-    uint8_t bytes[TPL_BOOK_MOST + 1]; /* one byte more than the largest book has, so that a longer file is refused */
-    size_t n;
+    uint8_t bytes[TPL_BOOK_MOST + 1], hours[TPL_HOURS_MOST + 1]; /* one byte more than the largest have, so that a longer file is refused */
+    size_t n, m;
+    int is_book;
     if (argc == 1) {
-        return ask_book(shop, sizeof shop);
+        return ask_book(shop, sizeof shop) || ask_hours(shop, sizeof shop, shop_hours, sizeof shop_hours);
     }
     if (argc > 2 + TPL_FIELDS_MOST || !read_file(argv[1], bytes, sizeof bytes, &n)) {
-        fprintf(stderr, "usage: example [FILE [TEXT..]], where FILE is a sheet or a book that can be read, and each TEXT is for one field\n");
-        return 2;
+        return usage();
     }
-    if (argc > 2) {
+    is_book = n >= 3 && memcmp(bytes, "TPB", 3) == 0;
+    if (argc == 2) {
+        return is_book ? ask_book(bytes, n) : ask_sheet(bytes, n);
+    }
+    if (!is_book) {
         return check_texts(bytes, n, argv + 2, (size_t)argc - 2);
     }
-    if (n >= 3 && memcmp(bytes, "TPB", 3) == 0) {
-        return ask_book(bytes, n);
+    if (argc > 3 || !read_file(argv[2], hours, sizeof hours, &m)) {
+        return usage();
     }
-    return ask_sheet(bytes, n);
+    return ask_hours(bytes, n, hours, m);
 }

@@ -1,7 +1,7 @@
-/* include/lunthegyr.h against the static library: each call that takes a sheet on document 01's sheet P, and the one that takes a book on a small
- * book, with an answer and with refusals, which change nothing that was lent; each cause why a filling does not clash, on a sheet with two pairs
- * and two rules; the header's numbers against those of documents 01 and 02; and buffers of the named sizes on the largest sheets of
- * tests/clauses.d and tests/search.d, and on a largest book. To be run in the repository's folder. */
+/* include/lunthegyr.h against the static library: each call that takes a sheet on document 01's sheet P, and those that take a book on a small
+ * book and its hours, with an answer and with refusals, which change nothing that was lent; each cause why a filling does not clash, on a sheet with
+ * two pairs and two rules; the header's numbers against those of documents 01 and 02; and buffers of the named sizes on the largest sheets of
+ * tests/clauses.d and tests/search.d, and on a largest book with the largest hours. To be run in the repository's folder. */
 #include <stdio.h>
 #include <stdlib.h>
 #include <string.h>
@@ -22,7 +22,7 @@ static void expect(int holds, const char *what) {
     }
 }
 
-/* The numbers of document 01 and, of books, document 02. */
+/* The numbers of document 01 and, of books and hours, document 02. */
 static const struct { int constant, number; } numbers[] = {
     { TPL_UNDER_NINE_BYTES, 1 }, { TPL_MARK, 2 }, { TPL_VERSION, 3 }, { TPL_LETTER_COUNT, 4 }, { TPL_FIELD_COUNT, 5 },
     { TPL_PAIR_COUNT, 6 }, { TPL_RULE_COUNT, 7 }, { TPL_BYTE_MISSING, 8 }, { TPL_BYTES_LEFT_OVER, 9 }, { TPL_LETTER, 10 },
@@ -34,6 +34,7 @@ static const struct { int constant, number; } numbers[] = {
     { TPL_VARIABLE_NUMBER, 35 }, { TPL_VARIABLE_TWICE, 36 }, { TPL_PLACE_VALUE, 37 }, { TPL_LETTER_AFTER_BLANK, 38 },
     { TPL_NO_CLASH, 39 },
     { TPL_BOOK_MARK, 40 }, { TPL_BOOK_FAULT, 41 }, { TPL_BUFFER_BELOW_LIST, 42 },
+    { TPL_HOURS_FAULT, 43 }, { TPL_WINDOW, 44 }, { TPL_WINDOW_ORDER, 45 },
     { TPL_LETTERS_MOST, 8 }, { TPL_FIELDS_MOST, 6 }, { TPL_PAIRS_MOST, 4 }, { TPL_RULES_MOST, 4 },
     { TPL_SYMBOLS_MOST, 12 }, { TPL_FIELD_SYMBOL, 128 },
     { TPL_FIELD_PLACES, 8 }, { TPL_FIELD_BYTES, 9 }, { TPL_FILLING_MOST, 9 * 6 }, { TPL_PAST_LENGTH, 255 },
@@ -45,6 +46,9 @@ static const struct { int constant, number; } numbers[] = {
     { TPL_BOOK_MOST, 3 + 2 + 1 + 8 + 1 + 16 * (1 + 3 + 1 + 12) },
     /* Two bytes for any two of 16. */
     { TPL_LIST_MOST, 2 * (16 * 15 / 2) },
+    { TPL_WINDOWS_MOST, 4 }, { TPL_WEEK_MINUTES, 7 * 24 * 60 },
+    /* Mark, version, and for the most templates a count and the most windows. */
+    { TPL_HOURS_MOST, 3 + 2 + 16 * (1 + 4 * 4) },
     /* These are the engine's own. */
     { TPL_CLASH, 1 }, { TPL_DOES_NOT_CLASH, 0 }, { TPL_APART, 0 },
     { TPL_PAIR_DIFFERS, 1 }, { TPL_RULE_BROKEN, 2 }, { TPL_WHY_NUMBERS, 5 }
@@ -312,6 +316,80 @@ static void listing(void) {
     expect(memcmp(list, due, sizeof due) == 0 && memcmp(list + 4, before, sizeof list - 4) == 0, "the list is again the same");
 }
 
+/* The first 24 bytes are hours for that book: from 0 to 60 and from 60 to 300; from 300 to 10080; from 299 to 300. So 0 and 2 share minute 299, and 1
+ * starts where 2 ends. */
+#define HOURS_BYTES 24
+static const uint8_t hours[HOURS_BYTES + 1] = { 'T', 'P', 'H', 0, 1, 2, 0, 0, 0, 60, 0, 60, 1, 44, 1, 1, 44, 39, 96, 1, 1, 43, 1, 44, 0 };
+
+/* Hours that are refused, each a change of one byte of these. */
+static const struct { enum tpl_refusal refusal; size_t offset; uint8_t byte; } damaged_hours[9] = {
+    { TPL_HOURS_FAULT, 0, 'L' }, { TPL_HOURS_FAULT, 2, 'B' }, { TPL_HOURS_FAULT, 3, 1 }, { TPL_HOURS_FAULT, 4, 2 },
+    { TPL_HOURS_FAULT, 5, TPL_WINDOWS_MOST + 1 }, { TPL_HOURS_FAULT, 14, 0 },
+    { TPL_WINDOW, 9, 0 }, { TPL_WINDOW, 18, 97 }, { TPL_WINDOW_ORDER, 11, 59 }
+};
+
+/* Calls tpl_book_hours on the small book. */
+static int64_t with_hours(const uint8_t *bytes, size_t m, uint8_t *list, size_t cap) {
+    return tpl_book_hours(book, BOOK_BYTES, bytes, m, list, cap);
+}
+
+static void sharing(void) {
+    static const uint8_t due[2] = { 0, 2 }, never[8] = { 'T', 'P', 'H', 0, 1, 0, 0, 0 };
+    uint8_t list[TPL_LIST_MOST], before[TPL_LIST_MOST], changed[HOURS_BYTES + 1];
+    memset(before, '.', sizeof before);
+    memcpy(list, before, sizeof list);
+    for (size_t i = 0; i < 9; i++) {
+        memcpy(changed, hours, HOURS_BYTES);
+        changed[damaged_hours[i].offset] = damaged_hours[i].byte;
+        expect(with_hours(changed, HOURS_BYTES, list, sizeof list) == -(int64_t)damaged_hours[i].refusal, "faulty hours are refused with their number");
+    }
+    expect(with_hours(hours, HOURS_BYTES + 1, list, sizeof list) == -TPL_HOURS_FAULT, "a byte left over is refused with 43");
+    expect(with_hours(hours, HOURS_BYTES - 1, list, sizeof list) == -TPL_HOURS_FAULT, "a byte that is missing is refused with 43");
+    expect(with_hours(hours, 0, list, sizeof list) == -TPL_HOURS_FAULT, "no bytes are refused with 43");
+    expect(tpl_book_hours(book, 4, hours, 0, list, 0) == -TPL_BOOK_MARK, "40 comes before 43");
+    expect(tpl_book_hours(book, BOOK_BYTES - 1, hours, 0, list, 0) == -TPL_BOOK_FAULT, "41 comes before 43");
+    memcpy(changed, hours, sizeof changed);
+    changed[11] = 59;
+    changed[18] = 97;
+    expect(with_hours(changed, HOURS_BYTES + 1, list, 0) == -TPL_HOURS_FAULT, "43 comes before 44 and 45");
+    expect(with_hours(changed, HOURS_BYTES, list, 0) == -TPL_WINDOW_ORDER, "45 of a window comes before 44 of a later one, and before 42");
+    changed[9] = 0;
+    expect(with_hours(changed, HOURS_BYTES, list, 0) == -TPL_WINDOW, "44 of a window comes before 45 of a later one, and before 42");
+    memcpy(changed, hours, sizeof changed);
+    changed[11] = 59;
+    changed[12] = changed[13] = 0;
+    expect(with_hours(changed, HOURS_BYTES, list, 0) == -TPL_WINDOW, "44 comes before 45 of the same window");
+    expect(with_hours(hours, HOURS_BYTES, list, 1) == -TPL_BUFFER_BELOW_LIST, "one byte for a pair is refused with 42");
+    expect(memcmp(list, before, sizeof list) == 0, "a refusal leaves the list's buffer with hours too");
+    expect(with_hours(never, sizeof never, list, 0) == 0, "templates that are never sent share no minute");
+    expect(memcmp(list, before, sizeof list) == 0, "an empty list leaves its buffer");
+    expect(with_hours(hours, HOURS_BYTES, list, 2) == 1, "two bytes are enough for the pair that shares a minute");
+    expect(memcmp(list, due, sizeof due) == 0, "templates 0 and 2 share a minute, and 1 and 2 do not");
+    expect(memcmp(list + 2, before, sizeof list - 2) == 0, "the bytes after a list stay with hours too");
+}
+
+/* The largest hours, in which each template has the same windows, leave the list of a largest book as it is. */
+static void largest_hours(const uint8_t *large, const uint8_t *due) {
+    uint8_t most[TPL_HOURS_MOST + 1], list[TPL_LIST_MOST];
+    size_t m = 5;
+    memset(most, 0, sizeof most);
+    memcpy(most, "TPH\0\1", 5);
+    for (size_t template = 0; template < TPL_TEMPLATES_MOST; template++) {
+        most[m++] = TPL_WINDOWS_MOST;
+        for (size_t window = 0; window < TPL_WINDOWS_MOST; window++, m += 4) {
+            most[m + 1] = (uint8_t)(10 * window);
+            most[m + 3] = (uint8_t)(10 * window + 1);
+        }
+    }
+    expect(m == TPL_HOURS_MOST, "the largest hours have TPL_HOURS_MOST bytes");
+    expect(tpl_book_hours(large, TPL_BOOK_MOST, most, TPL_HOURS_MOST + 1, list, sizeof list) == -TPL_HOURS_FAULT, "a byte more is refused with 43");
+    expect(tpl_book_hours(large, TPL_BOOK_MOST, most, TPL_HOURS_MOST, list, TPL_LIST_MOST - 1) == -TPL_BUFFER_BELOW_LIST,
+           "one byte less for a list with hours is refused with 42");
+    expect(tpl_book_hours(large, TPL_BOOK_MOST, most, TPL_HOURS_MOST, list, sizeof list) == TPL_LIST_MOST / 2,
+           "with the same hours all templates of a largest book clash");
+    expect(memcmp(list, due, sizeof list) == 0, "with the same hours the list is the same");
+}
+
 /* A book of TPL_BOOK_MOST bytes whose templates are all alike has a list of TPL_LIST_MOST bytes. */
 static void largest_book(void) {
     uint8_t large[TPL_BOOK_MOST + 1], list[TPL_LIST_MOST];
@@ -339,6 +417,7 @@ static void largest_book(void) {
             expect(list[at] == i && list[at + 1] == j, "each two templates are listed once, by the first and then by the second");
         }
     }
+    largest_hours(large, list);
 }
 
 /* Reads a file of hexadecimal digits, with comments on lines that start with #, into a buffer for a sheet. Returns the number of bytes, or 0
@@ -485,6 +564,7 @@ int main(void) {
     filing();
     replying();
     listing();
+    sharing();
     largest_book();
     largest();
     fits("tests/clauses.d/largest_sheet.sheet", TPL_APART, 0);
@@ -495,7 +575,7 @@ int main(void) {
     if (!all_passed) {
         return 1;
     }
-    puts("C header: the nine calls answer as they must on P and on a small book, its constants are the documents' numbers, and buffers of its "
+    puts("C header: the ten calls answer as they must on P and on a small book with hours, its constants are the documents' numbers, and buffers of its "
          "sizes are enough");
     return 0;
 }

@@ -160,7 +160,11 @@ impl Book {
 
 /// The list that is due in a buffer of `room` bytes, or the refusal. A book has this list or this fault.
 pub fn due(list: Result<&[u8], Fault>, room: usize) -> Result<&[u8], Refusal> {
-    let list = list.map_err(Fault::refusal)?;
+    fitting(list.map_err(Fault::refusal)?, room)
+}
+
+/// A list in a buffer of `room` bytes, or the refusal.
+pub fn fitting(list: &[u8], room: usize) -> Result<&[u8], Refusal> {
     if room < list.len() {
         return Err(Refusal::BufferBelowList);
     }

@@ -9,6 +9,7 @@ use crate::reader::{HEADER_BYTES, MOST_FIELDS, MOST_LETTERS, MOST_PAIRS, MOST_RU
 use crate::report::{require, Case, Hex};
 use crate::speller::Spelling;
 use crate::tally::Tally;
+use crate::timed;
 use crate::whys;
 use std::fmt::Debug;
 
@@ -28,8 +29,11 @@ pub struct Calls {
     pub reached: Vec<Reached>,
     /// Clashes that were compared with the one that the search gives, which none may be before.
     pub compared: Tally,
-    /// What was wrong with the books that were refused.
-    pub faults: Tally,
+    /// What was wrong with the books that were refused, and with the hours.
+    pub book_faults: Tally,
+    pub hours_faults: Tally,
+    /// How much the hours that were accepted left of a book's list.
+    pub left: Tally,
     /// What was first against the fillings that do not clash.
     whys: Tally,
     tallies: Vec<Tally>,
@@ -41,7 +45,9 @@ impl Calls {
             made: 0,
             reached: Vec::new(),
             compared: Tally::new("other clashes", &["the search's own", "a later one"], 0..0),
-            faults: listed::faults(),
+            book_faults: listed::book_faults(),
+            hours_faults: listed::hours_faults(),
+            left: Tally::new("hours leave", &timed::LEFT, 0..0),
             whys: Tally::new("why there is no clash", &whys::KINDS, 0..0),
             tallies: listed::tallies(),
         }
@@ -195,19 +201,22 @@ impl Calls {
         let before = buffer_before(room);
         let case: &Case = &[("book", &Hex(book)), ("buffer of", &room)];
         let got = self.hold(Call::Book, &before, 0, case, || engine::book(book, room));
-        if got.status > 0 {
-            let list = &got.lent[..PAIR_BYTES * got.status as usize];
-            let pairs: Vec<&[u8]> = list.chunks(PAIR_BYTES).collect();
-            let are_pairs = pairs
-                .iter()
-                .all(|pair| pair[0] < pair[1] && usize::from(pair[1]) < MOST_TEMPLATES);
-            let rise = pairs.windows(2).all(|two| two[0] < two[1]);
-            require(
-                are_pairs && rise,
-                "a list has no form of a list",
-                &[case, &[("list", &got)]].concat(),
-            );
-        }
+        require_list(&got, case);
+        got
+    }
+
+    /// `tpl_book_hours`; the same.
+    pub fn book_hours(&mut self, book: &[u8], hours: &[u8], room: usize) -> Outcome<u8> {
+        let before = buffer_before(room);
+        let case: &Case = &[
+            ("book", &Hex(book)),
+            ("hours", &Hex(hours)),
+            ("buffer of", &room),
+        ];
+        let got = self.hold(Call::BookHours, &before, 0, case, || {
+            engine::book_hours(book, hours, room)
+        });
+        require_list(&got, case);
         got
     }
 
@@ -226,7 +235,7 @@ impl Calls {
             _ if got.status < 0 => 0,
             Call::Check if got.status > 0 => 0,
             Call::Spell | Call::Line | Call::File => got.status as usize,
-            Call::Book => PAIR_BYTES.saturating_mul(got.status as usize),
+            Call::Book | Call::BookHours => PAIR_BYTES.saturating_mul(got.status as usize),
             _ => most,
         };
         let again = || self.made % AGAIN != 0 || run() == got;
@@ -266,9 +275,30 @@ impl Calls {
 
     /// Prints how often each answer came up, and fails if one came up less often than `least`.
     pub fn finish(&self, least: usize) {
-        let beside = [&self.whys, &self.compared, &self.faults];
+        let beside = [
+            &self.whys,
+            &self.compared,
+            &self.book_faults,
+            &self.hours_faults,
+            &self.left,
+        ];
         for tally in self.tallies.iter().chain(beside) {
             tally.finish_on_a_line(least);
         }
     }
+}
+
+/// A list that is answered is of pairs of numbers, each pair above the one before it.
+fn require_list(got: &Outcome<u8>, case: &Case) {
+    let size = PAIR_BYTES * got.status.max(0) as usize;
+    let pairs: Vec<&[u8]> = got.lent[..size].chunks(PAIR_BYTES).collect();
+    let are_pairs = pairs
+        .iter()
+        .all(|pair| pair[0] < pair[1] && usize::from(pair[1]) < MOST_TEMPLATES);
+    let rise = pairs.windows(2).all(|two| two[0] < two[1]);
+    require(
+        are_pairs && rise,
+        "a list has no form of a list",
+        &[case, &[("list", got)]].concat(),
+    );
 }

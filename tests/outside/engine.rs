@@ -52,6 +52,16 @@ extern "C" {
 
     /// Answers the number of pairs and the list, or minus the refusal's number and no list.
     fn tpl_book(book: *const u8, n: usize, list: *mut u8, cap: usize) -> i64;
+
+    /// Answers as `tpl_book` does.
+    fn tpl_book_hours(
+        book: *const u8,
+        n: usize,
+        hours: *const u8,
+        m: usize,
+        list: *mut u8,
+        cap: usize,
+    ) -> i64;
 }
 
 /// What one call answered and left behind.
@@ -284,5 +294,28 @@ pub fn book(book: &[u8], room: usize) -> Outcome<u8> {
         status,
         lent: list.after(PAIR_BYTES.saturating_mul(status.max(0) as usize)),
         rest_unchanged: bytes.unchanged() && list.margins_unchanged(),
+    }
+}
+
+/// Calls `tpl_book_hours` on copies of the book and the hours, with a buffer of `room` bytes.
+pub fn book_hours(book: &[u8], hours: &[u8], room: usize) -> Outcome<u8> {
+    let mut bytes = Lent::to_read(book, &SHEET_MARGIN);
+    let mut windows = Lent::to_read(hours, &SHEET_MARGIN);
+    let mut list = Lent::to_write(&buffer_before(room), &WRITTEN_MARGIN);
+    // The pointers lead to as many bytes as the number after each says.
+    let status = unsafe {
+        tpl_book_hours(
+            bytes.pointer(),
+            book.len(),
+            windows.pointer(),
+            hours.len(),
+            list.pointer(),
+            room,
+        )
+    };
+    Outcome {
+        status,
+        lent: list.after(PAIR_BYTES.saturating_mul(status.max(0) as usize)),
+        rest_unchanged: bytes.unchanged() && windows.unchanged() && list.margins_unchanged(),
     }
 }

@@ -1,5 +1,5 @@
 //! The fuzzer: makes inputs, gives each to every public call, and holds the answers to what must be
-//! so whatever the input, and those of checks to the plain answer. Inputs that reach what was reached seldom are kept, changed and tried
+//! so whatever the input, and those of checks and hours to the plain answer. Inputs that reach what was reached seldom are kept, changed and tried
 //! again. A fixed seed makes every run the same.
 
 use crate::calls::Calls;

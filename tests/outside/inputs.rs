@@ -2,7 +2,7 @@
 //! knows the layouts, and nothing of which answer an input leads to.
 
 use crate::assignment::Numbered;
-use crate::book::MOST_LIST_BYTES;
+use crate::book::{self, MOST_LIST_BYTES, MOST_TEMPLATES};
 use crate::books;
 use crate::fillings;
 use crate::planted;
@@ -10,6 +10,7 @@ use crate::random::Random;
 use crate::reader::{self, Sheet};
 use crate::replies;
 use crate::reply::MOST_BYTES;
+use crate::schedules;
 use crate::searches;
 use crate::sheets;
 use crate::small;
@@ -24,6 +25,7 @@ pub struct Input {
     pub filling: Vec<u8>,
     pub reply: Vec<u8>,
     pub book: Vec<u8>,
+    pub hours: Vec<u8>,
     pub pair: u64,
     pub side: u64,
     pub line: u64,
@@ -45,9 +47,10 @@ impl Input {
 
 /// An assignment of more variables is not listed, since that takes long.
 const MOST_LISTED: usize = 1000;
-/// A sheet or a book does not grow beyond this.
+/// A sheet, a book or hours do not grow beyond this.
 const LONGEST: usize = 1000;
 const DAMAGED_BOOK_PERCENT: usize = 15;
+const NO_HOURS_PERCENT: usize = 2;
 const DAMAGED_SHEET_PERCENT: usize = 15;
 const DAMAGED_FILLING_PERCENT: usize = 25;
 /// One new reply in so many is about as long as a reply can be.
@@ -71,11 +74,13 @@ pub fn new(random: &mut Random) -> Input {
         }
         _ => structured(random),
     };
+    let book = book(random);
     let mut input = Input {
         sheet,
         filling,
         reply,
-        book: book(random),
+        hours: hours(random, &book),
+        book,
         pair: 0,
         side: 0,
         line: 0,
@@ -119,6 +124,19 @@ fn book(random: &mut Random) -> Vec<u8> {
         sheets::damage(random, &mut bytes);
     }
     bytes
+}
+
+/// Hours for a book, some faulty, some of any bytes. What is no book is taken to be one of any size.
+fn hours(random: &mut Random, book: &[u8]) -> Vec<u8> {
+    if random.chance(NO_HOURS_PERCENT) {
+        let n = random.below(40);
+        return random.bytes(n);
+    }
+    let templates = match book::read(book) {
+        Ok(book) => book.templates.len(),
+        Err(_) => random.within(1, MOST_TEMPLATES),
+    };
+    schedules::any(random, templates)
 }
 
 /// A valid sheet, a filling of it and a reply to it, some of them damaged.
@@ -230,7 +248,7 @@ fn room(random: &mut Random) -> usize {
 /// Changes one to three things of an input, some to what they are in another one.
 pub fn change(random: &mut Random, input: &mut Input, other: &Input) {
     for _ in 0..random.within(1, 3) {
-        match random.below(10) {
+        match random.below(13) {
             0 | 1 => change_part(random, &mut input.sheet, &other.sheet),
             2 => refill(random, input),
             3 => change_bytes(random, &mut input.filling),
@@ -238,13 +256,22 @@ pub fn change(random: &mut Random, input: &mut Input, other: &Input) {
             5 => input.filling = other.filling.clone(),
             6 => input.reply = other.reply.clone(),
             7 => change_part(random, &mut input.book, &other.book),
-            8 => input.book = book(random),
+            8 => {
+                input.book = book(random);
+                input.hours = hours(random, &input.book);
+            }
+            9 => change_part(random, &mut input.hours, &other.hours),
+            10 => input.hours = hours(random, &input.book),
+            11 => {
+                input.book = other.book.clone();
+                input.hours = other.hours.clone();
+            }
             _ => renumber(random, input),
         }
     }
 }
 
-/// Damages a sheet or a book, crosses it with another one, or makes it longer or shorter.
+/// Damages a sheet, a book or hours, crosses them with other ones, or makes them longer or shorter.
 fn change_part(random: &mut Random, bytes: &mut Vec<u8>, other: &[u8]) {
     let place = random.below(bytes.len() + 1);
     let end = random.within(place, bytes.len());

@@ -1,6 +1,7 @@
 //! What the C header lists for each call: the range of its answers, and its refusals.
 
-use crate::book::{FAULTS, MOST_PAIRS};
+use crate::book::{self, MOST_PAIRS};
+use crate::schedule;
 use crate::tally::{Answer, Tally};
 use crate::writing;
 use std::ops::RangeInclusive;
@@ -38,10 +39,11 @@ pub enum Call {
     File,
     Reply,
     Book,
+    BookHours,
 }
 
 /// All calls, in the order of `Call`.
-static LISTED: [Listed; 9] = [
+static LISTED: [Listed; 10] = [
     Listed {
         name: "tpl_read",
         answers: 0..=0,
@@ -113,6 +115,13 @@ static LISTED: [Listed; 9] = [
         kind: book_kind,
         kinds: &BOOK_KINDS,
     },
+    Listed {
+        name: "tpl_book_hours",
+        answers: 0..=MOST_PAIRS as i64,
+        refusals: &[40..=45],
+        kind: book_kind,
+        kinds: &BOOK_KINDS,
+    },
 ];
 
 /// How many templates of a book clash.
@@ -143,7 +152,7 @@ fn file_kind(bytes: i64) -> &'static str {
 /// so are all files.
 pub fn kept_for(call: Call, status: i64) -> i64 {
     match (call, status) {
-        (Call::Book, 1..) if book_kind(status) == BOOK_KINDS[1] => 1,
+        (Call::Book | Call::BookHours, 1..) if book_kind(status) == BOOK_KINDS[1] => 1,
         (Call::File, 1..) => 1,
         _ => status,
     }
@@ -174,8 +183,15 @@ pub fn answer(call: Call, status: i64) -> Option<Answer> {
 }
 
 /// A tally of all that can be wrong with a book.
-pub fn faults() -> Tally {
-    Tally::new("books refused for", &FAULTS.map(|(_, name)| name), 0..0)
+pub fn book_faults() -> Tally {
+    let names = book::FAULTS.map(|(_, name)| name);
+    Tally::new("books refused for", &names, 0..0)
+}
+
+/// A tally of all that can be wrong with hours.
+pub fn hours_faults() -> Tally {
+    let names = schedule::FAULTS.map(|(_, _, name)| name);
+    Tally::new("hours refused for", &names, 0..0)
 }
 
 /// For each call a tally of all that it may return.

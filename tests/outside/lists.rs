@@ -43,17 +43,17 @@ pub fn run(test: &mut Test) {
 }
 
 /// Three empty templates, with letters A and B.
-const ALIKE: &[u8] = b"TPB\0\x01\x02AB\x03\0\0\0\0\0\0";
+pub const ALIKE: &[u8] = b"TPB\0\x01\x02AB\x03\0\0\0\0\0\0";
 /// One template alone.
-const ALONE: &[u8] = b"TPB\0\x01\x01A\x01\x01\x08\x03\x80\x80\0";
+pub const ALONE: &[u8] = b"TPB\0\x01\x01A\x01\x01\x08\x03\x80\x80\0";
 /// A hold-up, A with shop, zone and staff of limits 4, 2 and 3; a test of the line, 0 with a zone; a
 /// weekly test, A with shop and zone.
-const STORY: &[u8] = b"TPB\0\x01\x080123456A\x03\
+pub const STORY: &[u8] = b"TPB\0\x01\x080123456A\x03\
     \x03\x04\x02\x03\x04\x07\x80\x81\x82\x01\x02\x02\0\x80\x02\x04\x02\x03\x07\x80\x81";
 /// Nothing, nothing, A, X and XA, with limits 1.
-const EMPTY: &[u8] = b"TPB\0\x01\x01A\x05\0\0\0\0\0\x01\0\x01\x01\x01\x80\x01\x01\x02\x80\0";
+pub const EMPTY: &[u8] = b"TPB\0\x01\x01A\x05\0\0\0\0\0\x01\0\x01\x01\x01\x80\x01\x01\x02\x80\0";
 /// 16 empty templates, and 17.
-const SIXTEEN: &[u8] =
+pub const SIXTEEN: &[u8] =
     b"TPB\0\x01\x01A\x10\0\0\0\0\0\0\0\0\0\0\0\0\0\0\0\0\0\0\0\0\0\0\0\0\0\0\0\0\0\0\0\0";
 const SEVENTEEN: &[u8] =
     b"TPB\0\x01\x01A\x11\0\0\0\0\0\0\0\0\0\0\0\0\0\0\0\0\0\0\0\0\0\0\0\0\0\0\0\0\0\0\0\0\0\0";

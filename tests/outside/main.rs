@@ -8,7 +8,7 @@
 //! makes.
 //!
 //! With `fuzz` and a number it makes so many calls on inputs of all kinds, and holds their answers
-//! to what must be so whatever the input, and what checks answer to plain answers; with `--exact` after
+//! to what must be so whatever the input, and those of checks and hours to plain answers; with `--exact` after
 //! it nothing is lent with margins, so that valgrind's memcheck sees what is read or written outside of
 //! what is lent.
 //!
@@ -36,8 +36,10 @@ mod first;
 #[allow(dead_code)]
 mod form;
 mod fuzz;
+mod grid;
 mod handmade;
 mod hard;
+mod hours;
 mod inputs;
 mod large;
 mod late;
@@ -60,21 +62,27 @@ mod reordered;
 mod replies;
 mod reply;
 mod report;
+mod schedule;
+mod schedules;
 mod searches;
 mod shapes;
 mod sheets;
 mod small;
 mod solver;
 mod solving;
+mod spans;
 mod speller;
+mod spoiled;
 mod tally;
 mod test;
 mod texts;
 mod ticking;
 #[path = "../../tools/src/ticks.rs"]
 mod ticks;
+mod timed;
 mod turn;
 mod whys;
+mod worked;
 mod writer;
 mod writing;
 
@@ -152,5 +160,9 @@ fn test_all() {
     powers::run(&mut test);
     ticking::run(&mut test.random);
     lists::run(&mut test);
+    worked::run(&mut test);
+    grid::run(&mut test);
+    spoiled::run(&mut test);
+    hours::run(&mut test);
     test.finish();
 }

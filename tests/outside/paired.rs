@@ -1,27 +1,28 @@
-//! The part of a turn of the fuzzer that is about books. No call but `tpl_book` takes one, so that the
-//! plain reader says which books are refused; which templates clash is left to the library's search.
+//! The part of a turn of the fuzzer that is about books. The plain reader says which books are refused;
+//! which templates clash is left to the library's search.
 
 use crate::book::{self, Book, MOST_LIST_BYTES, PAIR_BYTES};
 use crate::engine::Outcome;
 use crate::refusal::Refusal;
+use crate::schedule::Listed;
 use crate::searches::ROOMY;
 use crate::sheets;
 use crate::test;
 use crate::turn::Turn;
 
 /// The first so many bytes of a book decide.
-const DECIDING: usize = 288;
+pub const DECIDING: usize = 288;
 /// How often it is tried whether the length of a buffer is just what it must be, and how often all
 /// questions of a book are asked.
-const BUFFERS_PERCENT: usize = 15;
+pub const BUFFERS_PERCENT: usize = 15;
 const ALL_QUESTIONS_PERCENT: usize = 5;
 
-const TOO_SHORT_FOR_LIST: i64 = -(Refusal::BufferBelowList as i64);
+pub const TOO_SHORT_FOR_LIST: i64 = -(Refusal::BufferBelowList as i64);
 
 impl Turn<'_> {
     /// A book is refused just when something is wrong with it, and by nothing behind its first 288
-    /// bytes; else its list is held to the search.
-    pub fn book(&mut self, got: &Outcome<u8>) {
+    /// bytes; else its list is held to the search, and answered with the book.
+    pub fn book(&mut self, got: &Outcome<u8>) -> Option<Listed> {
         let input = self.input;
         let bytes = &input.book[..];
         let status = got.status;
@@ -39,13 +40,15 @@ impl Turn<'_> {
                 let due = test::status(fault.refusal());
                 let reason = "a book with this fault has another answer";
                 self.require(status == due, reason, status, due);
-                self.calls.faults.count(Ok(fault.name()));
+                self.calls.book_faults.count(Ok(fault.name()));
+                None
             }
             Ok(book) => {
                 let accepted = status >= 0 || status == TOO_SHORT_FOR_LIST;
                 self.require(accepted, "a good book is refused", status, status);
                 let list = self.list(got);
                 self.questions(&book, &list);
+                Some(Listed { book, list })
             }
         }
     }

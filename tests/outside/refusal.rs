@@ -40,4 +40,7 @@ pub enum Refusal {
     BookMark = 40,
     BookFault = 41,
     BufferBelowList = 42,
+    HoursFault = 43,
+    Window = 44,
+    WindowOrder = 45,
 }

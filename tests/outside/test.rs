@@ -8,7 +8,9 @@ use crate::random::Random;
 use crate::reader;
 use crate::refusal::Refusal;
 use crate::report::{require, Case, Hex};
+use crate::schedule::{self, Wrong};
 use crate::shapes;
+use crate::spans;
 use crate::speller::{self, Spelling, Verdict};
 use crate::tally::{Answer, Tally};
 use crate::whys;
@@ -30,9 +32,13 @@ pub struct Test {
     line: Tally,
     file: Tally,
     book: Tally,
+    hours: Tally,
     shapes: Tally,
-    faults: Tally,
+    book_faults: Tally,
+    hours_faults: Tally,
     whys: Tally,
+    /// What was special about hours that are accepted.
+    pub spans: Tally,
 }
 
 impl Test {
@@ -48,9 +54,12 @@ impl Test {
             line: Tally::new("tpl_line", &KINDS, (1..=15).chain(28..=29)),
             file: Tally::new("tpl_file", &FILE_ROOMS, (1..=15).chain(29..=29)),
             book: Tally::new("tpl_book", &listed::BOOK_KINDS, 40..=42),
+            hours: Tally::new("tpl_book_hours", &listed::BOOK_KINDS, 40..=45),
             shapes: Tally::new("counted sheets with", &shapes::names(shapes::ALL), 0..0),
-            faults: listed::faults(),
+            book_faults: listed::book_faults(),
+            hours_faults: listed::hours_faults(),
             whys: whys::tally(),
+            spans: spans::tally(),
         }
     }
 
@@ -65,7 +74,7 @@ impl Test {
         self.calls().iter().map(|tally| tally.total()).sum()
     }
 
-    fn calls(&self) -> [&Tally; 7] {
+    fn calls(&self) -> [&Tally; 8] {
         [
             &self.read,
             &self.check,
@@ -74,6 +83,7 @@ impl Test {
             &self.line,
             &self.file,
             &self.book,
+            &self.hours,
         ]
     }
 
@@ -182,40 +192,60 @@ impl Test {
 
     /// Compares the list of a book, which has this list or this fault, in a buffer of `room` bytes.
     pub fn book(&mut self, bytes: &[u8], list: Result<&[u8], Fault>, room: usize) {
-        let mut buffer = engine::buffer_before(room);
-        let (status, answer) = match book::due(list, room) {
-            Ok(list) => {
-                buffer[..list.len()].copy_from_slice(list);
-                let pairs = (list.len() / PAIR_BYTES) as i64;
-                (pairs, Ok(listed::book_kind(pairs)))
-            }
-            Err(refusal) => (status(refusal), Err(refusal as u8)),
-        };
+        let (due, answer) = list_due(book::due(list, room), room);
         let case: &Case = &[("book", &Hex(bytes)), ("buffer of", &room)];
-        hold(engine::book(bytes, room), due(status, &buffer), case);
+        hold(engine::book(bytes, room), due, case);
         self.book.count(answer);
         if let Err(fault) = list {
-            self.faults.count(Ok(fault.name()));
+            self.book_faults.count(Ok(fault.name()));
+        }
+    }
+
+    /// Compares the list of a book with hours, which leave this of the book's own list, in a buffer of
+    /// `room` bytes.
+    pub fn book_hours(
+        &mut self,
+        book: &[u8],
+        hours: &[u8],
+        left: &Result<Vec<u8>, Wrong>,
+        room: usize,
+    ) {
+        let (due, answer) = list_due(schedule::due(left, room), room);
+        let case: &Case = &[
+            ("book", &Hex(book)),
+            ("hours", &Hex(hours)),
+            ("buffer of", &room),
+        ];
+        hold(engine::book_hours(book, hours, room), due, case);
+        self.hours.count(answer);
+        if let Err(Wrong::Hours(fault)) = left {
+            self.hours_faults.count(Ok(fault.name()));
         }
     }
 
     /// Prints how often each answer came up, and fails if one came up too seldom.
     pub fn finish(&self) {
-        let beside = [&self.shapes, &self.faults];
+        let beside = [
+            &self.shapes,
+            &self.book_faults,
+            &self.hours_faults,
+            &self.spans,
+        ];
         for tally in self.calls().into_iter().chain(beside) {
             tally.finish();
         }
         self.whys.finish_at(LEAST_OF_EACH_WHY);
         println!(
             "outside: the library agrees on {} sheets, {} fillings, {} spellings, {} clause counts, \
-             {} lines, {} files and {} lists",
+             {} lines, {} files, {} lists and {} lists with hours",
             self.read.total(),
             self.check.total(),
             self.spell.total(),
             self.count.total(),
             self.line.total(),
             self.file.total(),
-            self.book.total()
+            self.book.total(),
+            self.hours.total()
         );
     }
 }
@@ -233,6 +263,20 @@ fn check_answer(plain: Result<Verdict, Refusal>) -> Answer {
         whys::KINDS[kind]
     };
     Ok(verdict.why().map_or("clash", word))
+}
+
+/// What is to be answered and left behind where this list is due in a buffer of `room` bytes, or this
+/// refusal; and the same in a word.
+fn list_due(list: Result<&[u8], Refusal>, room: usize) -> (Outcome<u8>, Answer) {
+    let mut buffer = engine::buffer_before(room);
+    match list {
+        Ok(list) => {
+            buffer[..list.len()].copy_from_slice(list);
+            let pairs = (list.len() / PAIR_BYTES) as i64;
+            (due(pairs, &buffer), Ok(listed::book_kind(pairs)))
+        }
+        Err(refusal) => (due(status(refusal), &buffer), Err(refusal as u8)),
+    }
 }
 
 /// What a check is to answer and leave behind, by the plain answer: it writes five numbers, or none.

@@ -1,6 +1,6 @@
 //! One turn of the fuzzer: all calls on one input, and what must hold between their answers. It
-//! compares the library with itself. Plain code makes some more fillings to try, and only how a filling
-//! is checked is held to it.
+//! compares the library with itself. Plain code makes some more fillings to try. Held to it are only how
+//! a filling is checked, what is wrong with books and hours, and which templates share a minute.
 
 use crate::calls::{Calls, Reached};
 use crate::engine::{filling_bytes, Outcome};
@@ -43,6 +43,7 @@ pub struct Answers {
     pub file: i64,
     pub reply: Outcome<u8>,
     pub book: Outcome<u8>,
+    pub hours: Outcome<u8>,
 }
 
 impl Turn<'_> {
@@ -60,7 +61,8 @@ impl Turn<'_> {
             self.lines(&answers.count.lent);
             self.files(&answers.count.lent);
         }
-        self.book(&answers.book);
+        let listed = self.book(&answers.book);
+        self.hours(&answers, listed);
         self.calls.reached.clear();
         reached
     }
@@ -78,6 +80,7 @@ impl Turn<'_> {
             file: self.calls.file(sheet, input.room).status,
             reply: self.calls.reply(sheet, &input.reply, input.room),
             book: self.calls.book(&input.book, input.room),
+            hours: self.calls.book_hours(&input.book, &input.hours, input.room),
         }
     }
 
@@ -198,6 +201,7 @@ impl Turn<'_> {
             ("filling", &Hex(&input.filling)),
             ("reply", &input.reply.escape_ascii()),
             ("book", &Hex(&input.book)),
+            ("hours", &Hex(&input.hours)),
             ("pair", &input.pair),
             ("side", &input.side),
             ("line", &input.line),

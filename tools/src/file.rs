@@ -1,4 +1,4 @@
-//! A file by what it has: a sheet or a book, as text or as bytes.
+//! A file by what it has: a sheet or a book, as text or as bytes; and the bytes of a book's hours.
 
 use crate::line::{fault_at, Line};
 use crate::source::{shown, Fault, Place};
@@ -24,24 +24,31 @@ pub enum Content {
 
 /// Reads a file; `-` is standard input. A text whose lines do not tell is of the kind that is expected. What is wrong is told in words.
 pub fn open(path: &str, expected: Kind) -> Result<File, String> {
+    let (name, content) = bytes(path)?;
+    let (kind, content) = match marked(path, &content) {
+        Some(Marked::Hours) => return Err(format!("{name}: these are hours, which go with their book: `lunthegyr book --hours {path} BOOK` takes them")),
+        Some(Marked::Kind(kind)) => (kind, Content::Bytes(content)),
+        None => {
+            let text = text(&name, content)?;
+            let kind = kind_of_text(&text).map_err(|fault| shown(&name, &text, &fault))?;
+            (kind.unwrap_or(expected), Content::Text(text))
+        }
+    };
+    Ok(File {
+        name,
+        kind,
+        content,
+    })
+}
+
+/// What a file is called, and its bytes; `-` is standard input. What is wrong is told in words.
+pub fn bytes(path: &str) -> Result<(String, Vec<u8>), String> {
     let (name, content) = match path {
         "-" => ("standard input", from_standard_input()),
         _ => (path, fs::read(path)),
     };
     let content = content.map_err(|error| format!("{name}: {error}"))?;
-    let (kind, content) = match kind_of_bytes(path, &content) {
-        Some(kind) => (kind, Content::Bytes(content)),
-        None => {
-            let text = text(name, content)?;
-            let kind = kind_of_text(&text).map_err(|fault| shown(name, &text, &fault))?;
-            (kind.unwrap_or(expected), Content::Text(text))
-        }
-    };
-    Ok(File {
-        name: name.to_string(),
-        kind,
-        content,
-    })
+    Ok((name.to_string(), content))
 }
 
 fn from_standard_input() -> io::Result<Vec<u8>> {
@@ -50,10 +57,20 @@ fn from_standard_input() -> io::Result<Vec<u8>> {
     Ok(bytes)
 }
 
+/// What bytes are of.
+#[derive(Clone, Copy)]
+enum Marked {
+    Kind(Kind),
+    Hours,
+}
+
 /// What bytes are of, by their mark or else by the file's name; none if they are text.
-fn kind_of_bytes(path: &str, content: &[u8]) -> Option<Kind> {
-    let kinds: [(Kind, &[u8], &str); 2] =
-        [(Kind::Sheet, b"TPL", ".tpl"), (Kind::Book, b"TPB", ".tpb")];
+fn marked(path: &str, content: &[u8]) -> Option<Marked> {
+    let kinds: [(Marked, &[u8], &str); 3] = [
+        (Marked::Kind(Kind::Sheet), b"TPL", ".tpl"),
+        (Marked::Kind(Kind::Book), b"TPB", ".tpb"),
+        (Marked::Hours, b"TPH", ".tph"),
+    ];
     let marked = kinds.iter().find(|row| content.starts_with(row.1));
     let named = || kinds.iter().find(|row| path.ends_with(row.2));
     marked.or_else(named).map(|row| row.0)
@@ -68,7 +85,7 @@ pub fn kind_of_text(text: &str) -> Result<Option<Kind>, Fault> {
         let place = line.place();
         let word = line.word();
         let kind = match word.as_str() {
-            "template" => Kind::Book,
+            "template" | "hours" => Kind::Book,
             "field" | "pair" | "rule" => Kind::Sheet,
             _ => continue,
         };

@@ -161,11 +161,17 @@ impl Line {
     pub fn number(&mut self) -> Result<Option<i64>, Fault> {
         self.peek();
         let place = self.place();
-        let digits = self.run(|c| c.is_ascii_digit());
+        let digits = self.digits();
         if digits.len() > MOST_DIGITS {
             return fault_at(place, format!("a number of more than {MOST_DIGITS} digits"));
         }
         Ok(digits.parse().ok())
+    }
+
+    /// The digits that come next, of which there may be none.
+    pub fn digits(&mut self) -> String {
+        self.peek();
+        self.run(|c| c.is_ascii_digit())
     }
 
     fn run(&mut self, belongs: fn(char) -> bool) -> String {

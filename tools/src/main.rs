@@ -1,5 +1,5 @@
-//! A readable form of sheets and books, and what the proved engine says of them. It decides nothing itself: it turns text into bytes and back, and
-//! hands the bytes to the engine.
+//! A readable form of sheets, books and their hours, and what the proved engine says of them. It decides nothing itself: it turns text into bytes and
+//! back, and hands the bytes to the engine.
 
 mod apart;
 mod book;
@@ -9,6 +9,7 @@ mod draw;
 mod file;
 mod fill;
 mod form;
+mod hours;
 mod input;
 mod letters;
 mod line;
@@ -20,6 +21,7 @@ mod source;
 mod text;
 mod ticks;
 mod verdict;
+mod walk;
 mod words;
 
 use book::opinion::Outcome;
@@ -175,14 +177,18 @@ fn book(words: &[String]) -> Result<u8, Failure> {
     }
     let solver = solver(&words)?;
     let status = each(&words.files, "books", |file| {
-        book_one(file, solver.as_deref())
+        book_one(file, words.hours, solver.as_deref())
     })?;
     Ok(verdict_status(status, &words))
 }
 
-fn book_one(file: &str, solver: Option<&str>) -> Result<u8, Failure> {
-    let input = book::input::load(file).map_err(faulty)?;
-    say_lines(&book::verdict::of(&input))?;
+fn book_one(file: &str, hours: Option<&str>, solver: Option<&str>) -> Result<u8, Failure> {
+    let input = book::input::load(file, hours).map_err(faulty)?;
+    let (agree, lines) = book::verdict::of(&input);
+    say_lines(&lines)?;
+    if !agree {
+        return Ok(DISAGREE);
+    }
     if let Some(name) = solver {
         let (outcome, lines) = book::opinion::of(&input, name);
         say_lines(&lines)?;
@@ -192,7 +198,7 @@ fn book_one(file: &str, solver: Option<&str>) -> Result<u8, Failure> {
             Outcome::Disagree => return Ok(DISAGREE),
         }
     }
-    Ok(match input.book.clashes().is_empty() {
+    Ok(match input.listed().is_empty() {
         true => APART,
         false => CLASH,
     })
@@ -200,7 +206,7 @@ fn book_one(file: &str, solver: Option<&str>) -> Result<u8, Failure> {
 
 /// Writes the question of two templates as a sheet.
 fn sheet_of_book(file: &str, templates: [&str; 2]) -> Result<u8, Failure> {
-    let input = book::input::load(file).map_err(faulty)?;
+    let input = book::input::load(file, None).map_err(faulty)?;
     let text = book::question::text(&input, templates).map_err(faulty)?;
     say(text.as_bytes())?;
     Ok(0)
@@ -231,32 +237,61 @@ fn fill(words: &[String]) -> Result<u8, Failure> {
 }
 
 fn bytes(words: &[String]) -> Result<u8, Failure> {
-    let (file, out) = match words {
-        [file, out] => (file, out),
+    let (file, out, hours_out) = match words {
+        [file, out] => (file, out, None),
+        [file, out, hours] if out != hours => (file, out, Some(hours)),
+        [_, _, _] => return misuse("a book and its hours go to two files".to_string()),
         _ => return misuse("bytes needs a book or sheet, and a file to write to".to_string()),
     };
     let file = file::open(file, Kind::Sheet).map_err(faulty)?;
-    let bytes = match file.kind {
-        Kind::Sheet => input::of(file).map(|input| input.sheet.bytes().to_vec()),
-        Kind::Book => book::input::of(file).map(|input| input.book.bytes().to_vec()),
+    let name = file.name.clone();
+    let (bytes, hours) = match file.kind {
+        Kind::Sheet => (
+            input::of(file).map_err(faulty)?.sheet.bytes().to_vec(),
+            None,
+        ),
+        Kind::Book => {
+            let input = book::input::of(file, None).map_err(faulty)?;
+            (input.book.bytes().to_vec(), input.hours)
+        }
     };
-    let bytes = bytes.map_err(faulty)?;
-    match out.as_str() {
-        "-" => say(&bytes)?,
-        _ => fs::write(out, bytes).map_err(|error| faulty(format!("{out}: {error}")))?,
+    if hours.is_none() && hours_out.is_some() {
+        return Err(faulty(format!(
+            "{name} has no hours: only the text of a book has, in lines `hours ..`"
+        )));
+    }
+    put(out, &bytes)?;
+    match (hours, hours_out) {
+        (Some(hours), Some(out)) => put(out, hours.bytes())?,
+        (Some(_), None) => eprintln!("lunthegyr: {name} has hours too, and {out} has not; `lunthegyr bytes FILE OUT HOURS` writes them to a file of their own"),
+        (None, _) => {}
     }
     Ok(0)
 }
 
+/// Writes bytes to a file; `-` is standard output.
+fn put(out: &str, bytes: &[u8]) -> Result<(), Failure> {
+    match out {
+        "-" => say(bytes),
+        _ => fs::write(out, bytes).map_err(|error| faulty(format!("{out}: {error}"))),
+    }
+}
+
 fn text(words: &[String]) -> Result<u8, Failure> {
-    let file = match words {
+    let need = "text needs a book or sheet";
+    let words = taken(words, words::OF_TEXT, need)?;
+    let file = match words.files[..] {
         [file] => file,
-        _ => return misuse("text needs a book or sheet".to_string()),
+        _ => return misuse(need.to_string()),
     };
     let file = file::open(file, Kind::Sheet).map_err(faulty)?;
-    let text = match file.kind {
-        Kind::Sheet => input::of(file).map(|input| input.form.text()),
-        Kind::Book => book::input::of(file).map(|input| input.form.text()),
+    let text = match (file.kind, words.hours) {
+        (Kind::Sheet, Some(_)) => Err(format!(
+            "{}: this is a sheet, and a sheet has no hours",
+            file.name
+        )),
+        (Kind::Sheet, None) => input::of(file).map(|input| input.form.text()),
+        (Kind::Book, hours) => book::input::of(file, hours).map(|input| input.text()),
     };
     say(text.map_err(faulty)?.as_bytes())?;
     Ok(0)

@@ -1,6 +1,6 @@
 //! What the calls answer where they refuse nothing, and the sides of a pair. Why a filling does not clash is in `cause.rs`.
 
-use crate::Cause;
+use crate::{Cause, Refusal, LIST_MOST};
 use std::fmt;
 
 /// How many of each a sheet has.
@@ -52,6 +52,19 @@ pub struct Clashing {
     pub first: usize,
     /// The template on the right of the question.
     pub second: usize,
+}
+
+/// The pairs that a call lists, which is lent a buffer that is always long enough and answers their number.
+pub(crate) fn listed(
+    call: impl FnOnce(&mut [u8]) -> Result<usize, Refusal>,
+) -> Result<Vec<Clashing>, Refusal> {
+    let mut list = [0; LIST_MOST];
+    let pairs = call(&mut list)?;
+    let clashing = |pair: &[u8]| Clashing {
+        first: usize::from(pair[0]),
+        second: usize::from(pair[1]),
+    };
+    Ok(list[..2 * pairs].chunks(2).map(clashing).collect())
 }
 
 /// A side of a pair of templates.

@@ -1,7 +1,7 @@
 //! An accepted book, which of its templates clash, and the question that any two of them make.
 
-use crate::answers::Clashing;
-use crate::{calls, Refusal, Sheet, FIELD_SYMBOL, LIST_MOST};
+use crate::answers::{listed, Clashing};
+use crate::{calls, Refusal, Sheet, FIELD_SYMBOL};
 
 /// Where a book's letter count stands.
 const LETTER_COUNT_AT: usize = 5;
@@ -42,16 +42,11 @@ impl Book {
     /// ```
     pub fn read(bytes: impl Into<Vec<u8>>) -> Result<Book, Refusal> {
         let bytes = bytes.into();
-        let mut list = [0; LIST_MOST];
-        let pairs = calls::book(&bytes, &mut list)?;
-        let clashing = |pair: &[u8]| Clashing {
-            first: usize::from(pair[0]),
-            second: usize::from(pair[1]),
-        };
+        let clashes = listed(|list| calls::book(&bytes, list))?;
         Ok(Book {
             starts: starts(&bytes),
             bytes,
-            clashes: list[..2 * pairs].chunks(2).map(clashing).collect(),
+            clashes,
         })
     }
 
@@ -87,7 +82,8 @@ impl Book {
         template(&self.bytes[self.starts[number]..])
     }
 
-    /// The pairs of templates that clash, all of them and no others: each once, by the first template and then by the second.
+    /// The pairs of templates that clash, all of them and no others: each once, by the first template and then by the second. Which of them also share
+    /// a minute [`Hours`](crate::Hours) tell.
     pub fn clashes(&self) -> &[Clashing] {
         &self.clashes
     }
@@ -160,7 +156,7 @@ fn starts(bytes: &[u8]) -> Vec<usize> {
 mod tests {
     use super::*;
     use crate::samples::BOOK;
-    use crate::{BOOK_MOST, TEMPLATES_MOST, TEMPLATE_FIELDS_MOST};
+    use crate::{BOOK_MOST, LIST_MOST, TEMPLATES_MOST, TEMPLATE_FIELDS_MOST};
 
     /// The bytes of an empty template.
     const EMPTY: &[u8] = &[0, 0];

@@ -1,4 +1,4 @@
-//! The engine's nine calls, over any bytes and lent buffers. Each answers, or gives the first refusal in the order of documents 01 and 02,
+//! The engine's ten calls, over any bytes and lent buffers. Each answers, or gives the first refusal in the order of documents 01 and 02,
 //! with all that was lent to it as it was. They allocate nothing.
 
 use crate::cause::WHY_NUMBERS;
@@ -239,10 +239,37 @@ pub fn book(book: &[u8], list: &mut [u8]) -> Result<usize, Refusal> {
     call.outcome(engine::book(book, list))
 }
 
+/// Lists which templates of a book of any bytes clash and share a minute, by hours of any bytes. Answers how many pairs of templates do, in `list`
+/// as [`book`] has them; or one of the refusals 40 to 45, with all bytes as they were. A buffer of [`LIST_MOST`](crate::LIST_MOST) is
+/// always long enough. [`Hours`](crate::Hours) tells what the bytes of hours are.
+///
+/// ```
+/// use lunthegyr::{calls, Refusal, LIST_MOST};
+///
+/// // One letter, A; three templates, each a field of at most one letter: all of them clash.
+/// let book = b"TPB\x00\x01\x01A\x03\x01\x01\x01\x80\x01\x01\x01\x80\x01\x01\x01\x80";
+/// // The first is sent in the minutes 0 to 59 and 600 to 659, the second in 60 to 599, the third in 50 to 69.
+/// let hours = b"TPH\x00\x01\x02\x00\x00\x00\x3C\x02\x58\x02\x94\x01\x00\x3C\x02\x58\x01\x00\x32\x00\x46";
+/// let mut list = [0; LIST_MOST];
+/// let pairs = calls::book_hours(book, hours, &mut list)?;
+/// assert_eq!(list[..2 * pairs], [0, 2, 1, 2]);
+/// assert_eq!(calls::book_hours(book, &hours[..9], &mut list), Err(Refusal::HoursFault));
+/// # Ok::<(), Refusal>(())
+/// ```
+pub fn book_hours(book: &[u8], hours: &[u8], list: &mut [u8]) -> Result<usize, Refusal> {
+    let call = Call {
+        name: "tpl_book_hours",
+        greatest: list.len() / 2,
+        reads: OF_BOOK,
+        own: &[42, 43, 44, 45],
+    };
+    call.outcome(engine::book_hours(book, hours, list))
+}
+
 #[cfg(test)]
 mod tests {
     use super::*;
-    use crate::samples::{sheet_of, BOOK, P, PAIRS_AND_RULES, P_FILE};
+    use crate::samples::{sheet_of, BOOK, HOURS, P, PAIRS_AND_RULES, P_FILE};
     use crate::{Filling, Side};
 
     const IS_A: [u8; 9] = [1, 0, 255, 255, 255, 255, 255, 255, 255];
@@ -278,12 +305,38 @@ mod tests {
     }
 
     #[test]
+    fn a_book_comes_before_its_hours_and_both_before_the_buffer() {
+        let refused = |book: &[u8], hours: &[u8]| book_hours(book, hours, &mut []);
+        let short = &HOURS[..HOURS.len() - 1];
+        assert_eq!(refused(&BOOK[..4], short), Err(Refusal::BookMark));
+        assert_eq!(refused(&BOOK[..5], short), Err(Refusal::BookFault));
+        assert_eq!(refused(&BOOK, &[]), Err(Refusal::HoursFault));
+        assert_eq!(refused(&BOOK, short), Err(Refusal::HoursFault));
+        let with = |offset: usize, byte: u8| {
+            let mut hours = HOURS;
+            hours[offset] = byte;
+            refused(&BOOK, &hours)
+        };
+        assert_eq!(with(0, b'?'), Err(Refusal::HoursFault));
+        assert_eq!(with(3, 1), Err(Refusal::HoursFault));
+        assert_eq!(with(5, 5), Err(Refusal::HoursFault));
+        // The first window of template 0 ends at 0; its second one starts a minute before the first ends.
+        assert_eq!(with(9, 0), Err(Refusal::Window));
+        assert_eq!(with(11, 59), Err(Refusal::WindowOrder));
+        assert_eq!(refused(&BOOK, &HOURS), Err(Refusal::BufferBelowList));
+    }
+
+    #[test]
     fn a_buffer_that_is_too_short_stays_as_it_was() {
         let mut short = [b'.'; P_FILE.len() - 1];
         assert_eq!(file(&P, &mut short), Err(Refusal::BufferBelowLine));
         assert_eq!(short, [b'.'; P_FILE.len() - 1]);
         let mut buffer = [b'.'; 8];
         assert_eq!(book(&BOOK, &mut buffer[..3]), Err(Refusal::BufferBelowList));
+        assert_eq!(
+            book_hours(&BOOK, &HOURS, &mut buffer[..1]),
+            Err(Refusal::BufferBelowList)
+        );
         assert_eq!(
             spell(&P, 0, 0, &IS_A, &mut buffer[..0]),
             Err(Refusal::BufferTooShort)
@@ -317,6 +370,9 @@ mod tests {
         let mut list = [b'.'; 6];
         assert_eq!(book(&BOOK, &mut list), Ok(2));
         assert_eq!(list, *b"\x00\x01\x01\x03..");
+        let mut list = [b'.'; 4];
+        assert_eq!(book_hours(&BOOK, &HOURS, &mut list), Ok(1));
+        assert_eq!(list, *b"\x01\x03..");
     }
 
     #[test]
@@ -333,6 +389,10 @@ mod tests {
         assert_eq!(book(&BOOK, &mut [0; 4]), Ok(2));
         // A book of one template has no pairs.
         assert_eq!(book(b"TPB\x00\x01\x01A\x01\x00\x00", &mut []), Ok(0));
+        assert_eq!(book_hours(&BOOK, &HOURS, &mut [0; 2]), Ok(1));
+        // No template is ever sent.
+        let never = b"TPH\x00\x01\x00\x00\x00\x00";
+        assert_eq!(book_hours(&BOOK, never, &mut []), Ok(0));
     }
 
     #[test]

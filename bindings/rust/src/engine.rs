@@ -29,6 +29,14 @@ extern "C" {
         cap: usize,
     ) -> i64;
     fn tpl_book(book: *const u8, n: usize, list: *mut u8, cap: usize) -> i64;
+    fn tpl_book_hours(
+        book: *const u8,
+        n: usize,
+        hours: *const u8,
+        m: usize,
+        list: *mut u8,
+        cap: usize,
+    ) -> i64;
 }
 
 pub fn read(sheet: &[u8], counts: &mut [u64; 4]) -> i64 {
@@ -117,4 +125,18 @@ pub fn reply(sheet: &[u8], reply: &[u8], filling: &mut [u8]) -> i64 {
 pub fn book(book: &[u8], list: &mut [u8]) -> i64 {
     // SAFETY: the pointers lead to `book.len()` and `list.len()` bytes.
     unsafe { tpl_book(book.as_ptr(), book.len(), list.as_mut_ptr(), list.len()) }
+}
+
+pub fn book_hours(book: &[u8], hours: &[u8], list: &mut [u8]) -> i64 {
+    // SAFETY: the pointers lead to `book.len()`, `hours.len()` and `list.len()` bytes.
+    unsafe {
+        tpl_book_hours(
+            book.as_ptr(),
+            book.len(),
+            hours.as_ptr(),
+            hours.len(),
+            list.as_mut_ptr(),
+            list.len(),
+        )
+    }
 }

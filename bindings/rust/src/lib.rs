@@ -17,9 +17,25 @@
 //! # Ok::<(), lunthegyr::Refusal>(())
 //! ```
 //!
+//! [`Hours`] say when each template of a book is sent, and so which clashes are in the same minute.
+//!
+//! ```
+//! use lunthegyr::{Book, Hours, Window};
+//!
+//! // One letter, A; three templates: A, A and A. So any two of them clash.
+//! let book = Book::read(*b"TPB\x00\x01\x01A\x03\x00\x01\x00\x00\x01\x00\x00\x01\x00")?;
+//! assert_eq!(book.clashes().len(), 3);
+//! // Monday 09:00 to 17:30; Monday 17:30 to 18:00; the whole week.
+//! let windows = [(540, 1050), (1050, 1080), (0, 10080)].map(|(start, end)| [Window { start, end }]);
+//! let hours = Hours::from_windows(&book, &windows)?;
+//! let shared: Vec<_> = hours.clashes().iter().map(|pair| (pair.first, pair.second)).collect();
+//! assert_eq!(shared, [(0, 2), (1, 2)]);
+//! # Ok::<(), lunthegyr::Refusal>(())
+//! ```
+//!
 //! A sheet lists templates in pairs, and has rules. A filling clashes when in every pair both templates spell the same text, and every rule of
 //! the sheet holds. The repository's `docs/01-scope.md` ("document 01") defines the bytes of a sheet and of a filling, and what is refused;
-//! `docs/02-change-requests.md` ("document 02") does so for a book.
+//! `docs/02-change-requests.md` ("document 02") does so for a book and its hours.
 //!
 //! ```
 //! use lunthegyr::{Sheet, Side};
@@ -35,8 +51,8 @@
 //! [`Sheet::check`] says of texts of one's own whether they clash, and if they do not, where the first two texts part and what is left over, or
 //! which rule does not hold.
 //!
-//! [`Book`], [`Sheet`] and [`Filling`] are for most uses. The module [`calls`] has the engine's nine calls over any bytes and lent buffers; it
-//! allocates nothing.
+//! [`Book`], [`Hours`], [`Sheet`] and [`Filling`] are for most uses. The module [`calls`] has the engine's ten calls over any bytes and lent
+//! buffers; it allocates nothing.
 
 #![deny(missing_docs)]
 #![deny(unsafe_code)]
@@ -48,6 +64,7 @@ mod cause;
 #[allow(unsafe_code)]
 mod engine;
 mod filling;
+mod hours;
 mod refusal;
 mod sheet;
 mod sizes;
@@ -62,6 +79,7 @@ pub use answers::{Checked, Clashing, ClauseCounts, Counts, Searched, Side};
 pub use book::{Book, Template};
 pub use cause::Cause;
 pub use filling::Filling;
+pub use hours::{Hours, Window};
 pub use refusal::Refusal;
 pub use sheet::Sheet;
 pub use sizes::*;

@@ -1,4 +1,4 @@
-//! The refusals, with the numbers of document 01 and, of books, of document 02, and with words for a person who writes sheets and books.
+//! The refusals, with the numbers of document 01 and, of books and hours, of document 02, and with words for a person who writes sheets and books.
 
 use std::fmt;
 
@@ -81,11 +81,17 @@ pub enum Refusal {
     BookFault = 41,
     /// 42: the buffer is shorter than the list.
     BufferBelowList = 42,
+    /// 43: the hours have another mark or version, too many windows, or another size than the book's templates ask for.
+    HoursFault = 43,
+    /// 44: a window is empty or goes past the week.
+    Window = 44,
+    /// 45: a window starts before the preceding one ends.
+    WindowOrder = 45,
 }
 
 impl Refusal {
     /// All refusals, by rising number.
-    pub const ALL: [Refusal; 38] = [
+    pub const ALL: [Refusal; 41] = [
         Refusal::UnderNineBytes,
         Refusal::Mark,
         Refusal::Version,
@@ -124,6 +130,9 @@ impl Refusal {
         Refusal::BookMark,
         Refusal::BookFault,
         Refusal::BufferBelowList,
+        Refusal::HoursFault,
+        Refusal::Window,
+        Refusal::WindowOrder,
     ];
 
     /// Its number in document 01 or 02.
@@ -196,6 +205,11 @@ impl Refusal {
             Refusal::BufferBelowList => {
                 "the buffer is shorter than 2 bytes for each pair of templates that clash; 240 bytes are always enough"
             }
+            Refusal::HoursFault => {
+                "the hours do not start with the three bytes TPH and the version 1 in two bytes, a template has more than 4 windows, or bytes are missing or left over for the book's templates"
+            }
+            Refusal::Window => "a window's start is not below its end, or its end is above 10,080, the minutes of a week",
+            Refusal::WindowOrder => "a window starts before the preceding one of its template ends",
         }
     }
 }
@@ -214,18 +228,18 @@ mod tests {
     use super::*;
 
     #[test]
-    fn the_numbers_are_1_to_15_and_20_to_42() {
+    fn the_numbers_are_1_to_15_and_20_to_45() {
         let numbers: Vec<u8> = Refusal::ALL
             .iter()
             .map(|refusal| refusal.number())
             .collect();
-        assert_eq!(numbers, (1..=15).chain(20..=42).collect::<Vec<u8>>());
+        assert_eq!(numbers, (1..=15).chain(20..=45).collect::<Vec<u8>>());
     }
 
     #[test]
     fn a_number_leads_back_to_its_refusal() {
         for number in 0..=255 {
-            let there = (1..=15).contains(&number) || (20..=42).contains(&number);
+            let there = (1..=15).contains(&number) || (20..=45).contains(&number);
             let found = Refusal::from_number(number);
             assert_eq!(found.map(Refusal::number), Some(number).filter(|_| there));
         }

@@ -1,4 +1,4 @@
-//! Sheets and a book that the tests use.
+//! Sheets, a book and its hours that the tests use.
 
 use crate::Sheet;
 
@@ -24,6 +24,14 @@ pub const BOOK: [u8; 34] = *b"TPB\x00\x01\x02AB\x04\
 \x02\x02\x01\x03\x81\x80\x00\
 \x00\x01\x01\
 \x03\x01\x01\x02\x05\x80\x82\x00\x01\x00";
+
+/// Hours for that book, by which 1 and 3 share a minute, and 0 and 1 do not: from 0 to 60 and from 60 to 120; from 120 to 180; never; from 150 to the
+/// end of the week.
+pub const HOURS: [u8; 25] = *b"TPH\x00\x01\
+\x02\x00\x00\x00\x3C\x00\x3C\x00\x78\
+\x01\x00\x78\x00\xB4\
+\x00\
+\x01\x00\x96\x27\x60";
 
 /// The sheet of a file of hexadecimal digits, with comments on lines that start with #.
 pub fn sheet_of(file: &str) -> Sheet {

@@ -53,3 +53,12 @@ pub const TEMPLATE_FIELDS_MOST: usize = 3;
 
 /// The bytes of the longest list of clashing pairs: a buffer that is always long enough for one.
 pub const LIST_MOST: usize = 240;
+
+/// No accepted hours file has more bytes.
+pub const HOURS_MOST: usize = 277;
+
+/// A template has at most this many windows.
+pub const WINDOWS_MOST: usize = 4;
+
+/// The minutes of a week. No window ends later.
+pub const WEEK_MINUTES: u16 = 10080;

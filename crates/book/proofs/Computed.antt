@@ -90,7 +90,7 @@ unfolding clashing pairs keep each from asked solvable substitutions allTexts an
 clashing-of-own = refl
 
 -- and the list's bytes
-pub bytes-of-own : listBytes own-fields ≡ 0 ∷ 1 ∷ []
+pub bytes-of-own : listBytes (clashing own-fields) ≡ 0 ∷ 1 ∷ []
 unfolding listBytes clashing pairs keep each from asked solvable substitutions allTexts any all solves equationHolds constraintHolds sameLetter sameWord keeps same spell
 bytes-of-own = refl
 

@@ -1,4 +1,5 @@
 pub mod Computed
+pub mod Opening
 pub mod Reading
 pub mod Rests
 pub mod Places

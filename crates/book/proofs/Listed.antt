@@ -1,7 +1,7 @@
--- The list of clashing pairs: each is of two templates, the first below the second, that clash; every two that clash are there; and they stand in the
--- order "by i then j", so that none is there twice. Assumes nothing.
+-- A list of the pairs that pass a test, as those that clash: each is of two templates, the first below the second, that pass it; every two that do are there; and
+-- they stand in the order "by i then j", so that none is there twice. Assumes nothing.
 use mathlib.Core.Path.{_≡_, refl, ap, _∙_}
-use mathlib.Core.Bool.{Bool, true, false}
+use mathlib.Core.Bool.{Bool, true, false, _&&_}
 use mathlib.Core.List.{List, [], _∷_, _++_, map}
 use Prim.Native.Nat.{ℕ, zero, suc, _+_, _-_, _*_, _<_, _≤_}
 use native.Mathlib.Omega.{arith}
@@ -11,7 +11,7 @@ use Rattle.model.proofs.Lists.{by-test, weaken, at, append-in, map-in, map-out,
 use Rattle.model.proofs.Keeping.{keep-in, keep-out, from-in, below-in, loop-in, loop-out, keep-each, keep-short, length-map-from, length-loop, total-grows}
 use Rattle.model.proofs.Pieces.{each-each}
 use Rattle.book.specs.Book.{Book}
-use Rattle.book.specs.Pairs.{Pair, pairs, clash, clashing, pairBytes, listBytes, rowBytes, Precedes, by-first, by-second}
+use Rattle.book.specs.Pairs.{Pair, pairs, kept, clash, clashing, pairBytes, listBytes, rowBytes, Precedes, by-first, by-second}
 
 abbrev pair : ℕ → ℕ → Pair
 pair i j = record { first = i; second = j }
@@ -33,14 +33,12 @@ module _ (n : ℕ) where
   pairs-in P h =
       loop-in P n (rowOf n) (λ i l. map-in P (λ j. pair i j) (from (suc i) (n - suc i)) (from-in (λ j. P (pair i j)) (suc i) (n - suc i) (λ j a b. h i j a (omega arith))))
 
-module _ (k : Book) where
-  pub listed-clash : All (λ p. (p .first < p .second) × (p .second < length (k .templates)) × (clash k (p .first) (p .second) ≡ true)) (clashing k)
-  unfolding clashing
-  listed-clash = keep-in _ (λ p. clash k (p .first) (p .second)) (pairs (length (k .templates))) (pairs-in (length (k .templates)) _ (λ i j l m t. (l, m, t)))
+module _ (t : ℕ → ℕ → Bool) (n : ℕ) where
+  pub kept-pass : All (λ p. (p .first < p .second) × (p .second < n) × (t (p .first) (p .second) ≡ true)) (kept t n)
+  kept-pass = keep-in _ (λ p. t (p .first) (p .second)) (pairs n) (pairs-in n _ (λ i j l m e. (l, m, e)))
 
-  pub clash-listed : (P : Pair → Type 0) → All P (clashing k) → (i j : ℕ) → i < j → j < length (k .templates) → clash k i j ≡ true → P (pair i j)
-  unfolding clashing
-  clash-listed P h i j l m t = pairs-out (length (k .templates)) _ (keep-out P (λ p. clash k (p .first) (p .second)) (pairs (length (k .templates))) h) i j l m t
+  pub pass-kept : (P : Pair → Type 0) → All P (kept t n) → (i j : ℕ) → i < j → j < n → t i j ≡ true → P (pair i j)
+  pass-kept P h i j l m e = pairs-out n _ (keep-out P (λ p. t (p .first) (p .second)) (pairs n) h) i j l m e
 
 -- Once, and in order: every pair precedes those after it.
 unfoldable Sorted : List Pair → Type 0
@@ -90,52 +88,74 @@ sorted-at (x ∷ xs) h d m zero l k = absurd (omega arith)
 sorted-at (x ∷ xs) h d zero (suc n) l k = at (Precedes x) xs n d (h .0) (omega arith)
 sorted-at (x ∷ xs) h d (suc m) (suc n) l k = sorted-at xs (h .1) d m n (omega arith) (omega arith)
 
-pub listed-in-order : (k : Book) (d : Pair) (m n : ℕ) → m < n → n < length (clashing k) → Precedes (getD (clashing k) m d) (getD (clashing k) n d)
-unfolding clashing
-listed-in-order k = sorted-at (clashing k) (sorted-keep (λ p. clash k (p .first) (p .second)) (pairs (length (k .templates))) (pairs-sorted (length (k .templates))))
+pub kept-in-order : (t : ℕ → ℕ → Bool) (c : ℕ) (d : Pair) (m n : ℕ) → m < n → n < length (kept t c) → Precedes (getD (kept t c) m d) (getD (kept t c) n d)
+kept-in-order t c = sorted-at (kept t c) (sorted-keep (λ p. t (p .first) (p .second)) (pairs c) (pairs-sorted c))
 
 -- none precedes itself, so that none stands there twice
 pub precedes-another : (p q : Pair) → Precedes p q → p ≡ q → ⊥
 precedes-another p q (by-first l) e = let m = ap (λ (r : Pair). r .first) e in omega arith
 precedes-another p q (by-second f l) e = let m = ap (λ (r : Pair). r .second) e in omega arith
 
-pub listed-once : (k : Book) (d : Pair) (m n : ℕ) → m < n → n < length (clashing k) → getD (clashing k) m d ≡ getD (clashing k) n d → ⊥
-listed-once k d m n l h = precedes-another (getD (clashing k) m d) (getD (clashing k) n d) (listed-in-order k d m n l h)
+pub kept-once : (t : ℕ → ℕ → Bool) (c : ℕ) (d : Pair) (m n : ℕ) → m < n → n < length (kept t c) → getD (kept t c) m d ≡ getD (kept t c) n d → ⊥
+kept-once t c d m n l h = precedes-another (getD (kept t c) m d) (getD (kept t c) n d) (kept-in-order t c d m n l h)
 
--- The list as it is written, row by row; and its size.
+-- Its size: two bytes for each pair.
 two-each : (ps : List Pair) → length (each ps pairBytes) ≡ 2 * length ps
 unfolding each
 two-each [] = refl
 two-each (p ∷ ps) = let n = two-each ps in omega arith
 
+pub list-size : (ps : List Pair) → length (listBytes ps) ≡ 2 * length ps
+unfolding listBytes
+list-size = two-each
+
 below-sixteen : total 16 (λ i. 16 - suc i) ≡ 120
 unfolding total
 below-sixteen = refl
 
-module _ (k : Book) where
-  row-written : (i : ℕ) (js : List ℕ) → each (keep (λ p. clash k (p .first) (p .second)) (map (λ j. pair i j) js)) pairBytes ≡ each js (λ j. when (clash k i j) (i ∷ j ∷ []))
-  unfolding each keep
-  row-written i [] = refl
-  row-written i (j ∷ js) = by-test (clash k i j) (λ e. rw e (ap (λ z. i ∷ j ∷ z) (row-written i js))) (λ e. rw e (row-written i js))
-
-  pub list-rows : listBytes k ≡ each (upTo (length (k .templates))) (rowBytes k)
-  unfolding listBytes clashing pairs rowBytes
-  list-rows =
-      let n : ℕ = length (k .templates) in
-      ap (λ ps. each ps pairBytes) (keep-each (λ p. clash k (p .first) (p .second)) (upTo n) (rowOf n))
-      ∙ each-each (upTo n) _ pairBytes
-      ∙ each-same _ _ (upTo n) (below-in _ n (λ i l. row-written i (from (suc i) (n - suc i))))
-
-  -- two bytes for each pair
-  pub list-size : length (listBytes k) ≡ 2 * length (clashing k)
-  unfolding listBytes
-  list-size = two-each (clashing k)
-
-  pub clashing-few : length (k .templates) ≤ 16 → length (clashing k) ≤ 120
-  unfolding clashing pairs
-  clashing-few h =
-      let n : ℕ = length (k .templates) in
-      let short = keep-short (λ p. clash k (p .first) (p .second)) (pairs n) in
+module _ (t : ℕ → ℕ → Bool) (n : ℕ) where
+  pub kept-few : n ≤ 16 → length (kept t n) ≤ 120
+  unfolding pairs
+  kept-few h =
+      let short = keep-short (λ p. t (p .first) (p .second)) (pairs n) in
       let all = length-loop (rowOf n) n (λ i. n - suc i) (λ i l. length-map-from (λ j. pair i j) (suc i) (n - suc i)) in
       let most = total-grows n 16 (λ i. n - suc i) (λ i. 16 - suc i) h (λ i l. omega arith) in
       omega (arith, below-sixteen)
+
+  -- The list as it is written, row by row.
+  row-written : (i : ℕ) (js : List ℕ) → each (keep (λ p. t (p .first) (p .second)) (map (λ j. pair i j) js)) pairBytes ≡ each js (λ j. when (t i j) (i ∷ j ∷ []))
+  unfolding each keep
+  row-written i [] = refl
+  row-written i (j ∷ js) = by-test (t i j) (λ e. rw e (ap (λ z. i ∷ j ∷ z) (row-written i js))) (λ e. rw e (row-written i js))
+
+  pub list-rows : listBytes (kept t n) ≡ each (upTo n) (rowBytes t n)
+  unfolding listBytes pairs rowBytes
+  list-rows =
+      ap (λ ps. each ps pairBytes) (keep-each (λ p. t (p .first) (p .second)) (upTo n) (rowOf n))
+      ∙ each-each (upTo n) _ pairBytes
+      ∙ each-same _ _ (upTo n) (below-in _ n (λ i l. row-written i (from (suc i) (n - suc i))))
+
+-- of the pairs that pass one test those that pass another
+kept-again : (t u : ℕ → ℕ → Bool) (ps : List Pair) → keep (λ p. u (p .first) (p .second)) (keep (λ p. t (p .first) (p .second)) ps) ≡ keep (λ p. t (p .first) (p .second) && u (p .first) (p .second)) ps
+unfolding keep
+kept-again t u [] = refl
+kept-again t u (p ∷ ps) = by-test (t (p .first) (p .second))
+    (λ e. rw e (ap (λ z. when (u (p .first) (p .second)) (p ∷ []) ++ z) (kept-again t u ps)))
+    (λ e. rw e (kept-again t u ps))
+
+pub kept-both : (t u : ℕ → ℕ → Bool) (n : ℕ) → keep (λ p. u (p .first) (p .second)) (kept t n) ≡ kept (λ i j. t i j && u i j) n
+kept-both t u n = kept-again t u (pairs n)
+
+-- tests that agree on all pairs keep the same
+keep-agree : (f g : Pair → Bool) (ps : List Pair) → All (λ p. f p ≡ g p) ps → keep f ps ≡ keep g ps
+unfolding keep All
+keep-agree f g [] h = refl
+keep-agree f g (p ∷ ps) h = rw (h .0) (ap (λ z. when (g p) (p ∷ []) ++ z) (keep-agree f g ps (h .1)))
+
+pub kept-agree : (t u : ℕ → ℕ → Bool) (n : ℕ) → ((i j : ℕ) → i < j → j < n → t i j ≡ u i j) → kept t n ≡ kept u n
+kept-agree t u n h = keep-agree (λ p. t (p .first) (p .second)) (λ p. u (p .first) (p .second)) (pairs n) (pairs-in n _ h)
+
+-- those that clash
+pub clashing-kept : (k : Book) → clashing k ≡ kept (clash k) (length (k .templates))
+unfolding clashing
+clashing-kept k = refl

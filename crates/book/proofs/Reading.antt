@@ -18,6 +18,7 @@ use Rattle.model.proofs.Rows.{row-reads, row-exact, within-row}
 use Rattle.model.proofs.Faithful.{rest-bytes, Exact, Faithful, times-reads, times-exact}
 use Rattle.model.proofs.Opening.{between-in, between-out, starts-with, starts-longer}
 use Rattle.model.proofs.Sections.{letters-pass, letters-rise, letters-in-range, limits-pass, limits-in-range, symbols-again, symbols-back, template-reads, template-in}
+use Rattle.book.proofs.Opening.{five-bytes, opens-longer}
 use Rattle.book.specs.Book.{Template, Book, count, someSymbols, aTemplate, someTemplates, body, Reading, accepted, refused, mark, opens, ended, readBook, encodeTemplate, encodeBook, OwnIn, BookIn, bookIn, bookOf, Admitted}
 
 -- A count.
@@ -44,7 +45,7 @@ module _ (low high : ℕ) where
   count-longer [] ys h = absurd (omega arith)
   count-longer (x ∷ xs) ys h = by-test (between low high x) (λ e. rw e) (λ e. rw e)
 
-  within-count : Within 1 (count low high)
+  pub within-count : Within 1 (count low high)
   within-count = record { local = count-longer; spends = λ xs e. let c = ap length (count-exact xs e .bytes) in omega arith }
 
 -- A template.
@@ -144,28 +145,12 @@ ended-accepted (got a []) h = cc
 ended-accepted (got a (z ∷ zs)) h = absurd (let z : _≡_ {A = ℕ} 0 1 = cc in omega arith)
 ended-accepted (fault n) h = absurd (let z : _≡_ {A = ℕ} 0 1 = cc in omega arith)
 
-pub accepted-body : (b : List ℕ) {k : Book} → readBook b ≡ accepted k → (opens b ≡ true) × (body (drop 5 b) ≡ got k [])
+pub accepted-body : (b : List ℕ) {k : Book} → readBook b ≡ accepted k → (opens mark b ≡ true) × (body (drop 5 b) ≡ got k [])
 unfolding readBook
 accepted-body b h =
-    by-test (opens b)
+    by-test (opens mark b)
     (λ e. (e, ended-accepted (body (drop 5 b)) (rw e at h)))
     (λ e. let no = rw e at h in let z : _≡_ {A = ℕ} 0 1 = cc in absurd (omega arith))
-
-module _ (b : List ℕ) (h : opens b ≡ true) where
-  opens-parts : (5 ≤ length b) × (startsWith mark b ≡ true) × (sixteen (byte b 3) (byte b 4) ≡ 1)
-  unfolding opens
-  opens-parts =
-      let a = and-split (leb 5 (length b)) (startsWith mark b && eqb (sixteen (byte b 3) (byte b 4)) 1) h in
-      let c = and-split (startsWith mark b) (eqb (sixteen (byte b 3) (byte b 4)) 1) (a .1) in
-      (leb-true 5 (length b) (a .0), c .0, eqb-true _ 1 (c .1))
-
-  five-bytes : b ≡ mark ++ (bytesOf 1 ++ drop 5 b)
-  five-bytes =
-      let p = opens-parts in
-      let high : byte b 3 ≡ 0 = omega (arith, p .2) in
-      let low : byte b 4 ≡ 1 = omega (arith, p .2) in
-      starts-with mark b (p .1)
-      ∙ ap (λ l. mark ++ l) (drop-cons b 3 0 (omega (arith, p .0)) ∙ ap (λ l. byte b 3 ∷ l) (drop-cons b 4 0 (omega (arith, p .0))) ∙ rw (high, low))
 
 module _ (xs : List ℕ) (y : Bytes xs) where
   body-exact : {k : Book} {zs : List ℕ} → body xs ≡ got k zs → (xs ≡ length (k .letters) ∷ (k .letters ++ (length (k .templates) ∷ (each (k .templates) encodeTemplate ++ zs)))) × BookIn k
@@ -197,7 +182,7 @@ pub accepted-encode : (b : List ℕ) {k : Book} → Bytes b → readBook b ≡ a
 unfolding encodeBook
 accepted-encode b {k} y h =
     let a = accepted-body b h in
-    let f = five-bytes b (a .0) in
+    let f = five-bytes mark b refl (a .0) in
     let e = body-exact (drop 5 b) (rest-bytes (mark ++ bytesOf 1) (drop 5 b) f y .1) (a .1) in
     (f ∙ ap (λ ys. mark ++ (bytesOf 1 ++ ys)) (e .0 ∙ rw (append-nil (each (k .templates) encodeTemplate))), e .1)
 
@@ -241,18 +226,6 @@ within-body =
     (λ xs l zs e. within-then 8 273 (row letterByte 0 l) _ (within-more (within-row letterByte 0 l) (count-exact 1 8 xs e .most))
     (λ xs ls zs e. within-then 273 0 (someTemplates l) _ (within-templates l) (λ xs ts zs e. within-got _)))
 
-opens-longer : (xs ys : List ℕ) → 5 ≤ length xs → opens (xs ++ ys) ≡ opens xs
-unfolding opens
-opens-longer xs ys h =
-    let same : (k : ℕ) → k < 5 → byte (xs ++ ys) k ≡ byte xs k = λ k g. List·getD-append xs ys 0 k (omega arith) in
-    rw (
-      le-leb 5 (length (xs ++ ys)) (rw (length-append xs ys) (omega arith)),
-      le-leb 5 (length xs) h,
-      starts-longer mark xs ys (omega arith),
-      same 3 (omega arith),
-      same 4 (omega arith),
-    )
-
 longer-ended : (ys : List ℕ) (s : Step Book) → ((k : Book) (zs : List ℕ) → s ≡ got k zs → 1 ≤ length zs) → ended (longer ys s) ≡ ended s
 longer-ended ys (got k []) h = absurd (let z = h k [] refl in omega arith)
 longer-ended ys (got k (z ∷ zs)) h = refl
@@ -263,7 +236,7 @@ unfolding readBook
 read-longer xs ys h =
     let n : length (drop 5 xs) ≡ length xs - 5 = length-drop 5 xs in
     rw (
-      opens-longer xs ys (omega arith),
+      opens-longer mark xs ys refl (omega arith),
       drop-append-le 5 xs ys (omega arith),
       within-body .local (drop 5 xs) ys (omega arith),
       longer-ended ys (body (drop 5 xs)) (λ k zs e. let m = within-body .spends (drop 5 xs) e in omega arith),

@@ -100,32 +100,13 @@ module _ (xs : List ℕ) where
     unfolding body
     letters-left zs r = rw (count-value 1 8 xs is c, row-found letterByte l ys r) (rest-wrapped (someTemplates l zs) _)
 
--- The mark and the version.
-module _ (b : List ℕ) where
-  pub opens-short : leb 5 (length b) ≡ false → opens b ≡ false
-  unfolding opens
-  opens-short e = rw e
-
-  module _ (long : leb 5 (length b) ≡ true) where
-    pub opens-unmarked : startsWith mark b ≡ false → opens b ≡ false
-    unfolding opens
-    opens-unmarked e = rw (long, e)
-
-    pub opens-version : startsWith mark b ≡ true → opens b ≡ eqb (sixteen (byte b 3) (byte b 4)) 1
-    unfolding opens
-    opens-version e = rw (long, e)
-
-  pub opens-long : opens b ≡ true → 5 ≤ length b
-  unfolding opens
-  opens-long h = leb-true 5 (length b) (and-split (leb 5 (length b)) _ h .0)
-
 -- The whole.
 module _ (b : List ℕ) where
-  pub read-shut : opens b ≡ false → readBook b ≡ refused 40
+  pub read-shut : opens mark b ≡ false → readBook b ≡ refused 40
   unfolding readBook
   read-shut e = rw e
 
-  module _ (o : opens b ≡ true) where
+  module _ (o : opens mark b ≡ true) where
     read-on : {s : Step Book} → body (drop 5 b) ≡ s → readBook b ≡ ended s
     unfolding readBook
     read-on e = rw (o, e)

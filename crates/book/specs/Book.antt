@@ -67,12 +67,13 @@ pub data Reading : Type 0 where
   accepted : Book → Reading
   refused : ℕ → Reading
 
--- "the mark TPB, version 1 in 16 bits"
+-- whether a file has this mark, of three bytes, and "version 1 in 16 bits"
+unfoldable pub opens : List ℕ → List ℕ → Bool
+opens mark b = leb 5 (length b) && (startsWith mark b && eqb (sixteen (byte b 3) (byte b 4)) 1)
+
+-- "the mark TPB"
 abbrev pub mark : List ℕ
 mark = 84 ∷ 80 ∷ 66 ∷ []
-
-unfoldable pub opens : List ℕ → Bool
-opens b = leb 5 (length b) && (startsWith mark b && eqb (sixteen (byte b 3) (byte b 4)) 1)
 
 -- "41 when a count, letter, limit, symbol or width breaks a range given here or a sheet's rule for it, or bytes are missing or left over."
 abbrev pub ended : Step Book → Reading
@@ -82,7 +83,7 @@ ended (fault n) = refused 41
 
 -- "40 when the book is under five bytes or mark or version is wrong." It is tested before 41.
 unfoldable pub readBook : List ℕ → Reading
-readBook b = pick (opens b) (ended (body (drop 5 b))) (refused 40)
+readBook b = pick (opens mark b) (ended (body (drop 5 b))) (refused 40)
 
 -- The bytes of a book, as document 02 lists them.
 abbrev pub encodeTemplate : Template → List ℕ

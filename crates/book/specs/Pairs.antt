@@ -49,20 +49,24 @@ pub record Pair : Type 0 where
 unfoldable pub pairs : ℕ → List Pair
 pairs n = each (upTo n) (λ i. map (λ j. record { first = i; second = j }) (from (suc i) (n - suc i)))
 
+-- those that pass a test
+abbrev pub kept : (ℕ → ℕ → Bool) → ℕ → List Pair
+kept t n = keep (λ p. t (p .first) (p .second)) (pairs n)
+
 -- "The answer lists each clashing (i, j) once, by i then j .. . It lists all of them and no others".
 unfoldable pub clashing : Book → List Pair
-clashing k = keep (λ p. clash k (p .first) (p .second)) (pairs (length (k .templates)))
+clashing k = kept (clash k) (length (k .templates))
 
 -- "one byte for i and one for j"
 abbrev pub pairBytes : Pair → List ℕ
 pairBytes p = p .first ∷ p .second ∷ []
 
-unfoldable pub listBytes : Book → List ℕ
-listBytes k = each (clashing k) pairBytes
+unfoldable pub listBytes : List Pair → List ℕ
+listBytes ps = each ps pairBytes
 
--- the part of it that has i as the first
-unfoldable pub rowBytes : Book → ℕ → List ℕ
-rowBytes k i = each (from (suc i) (length (k .templates) - suc i)) (λ j. when (clash k i j) (i ∷ j ∷ []))
+-- the part of it that has i as the first, of n templates and those pairs that pass a test
+unfoldable pub rowBytes : (ℕ → ℕ → Bool) → ℕ → ℕ → List ℕ
+rowBytes t n i = each (from (suc i) (n - suc i)) (λ j. when (t i j) (i ∷ j ∷ []))
 
 -- the order "by i then j"
 pub data Precedes (p q : Pair) : Type 0 where

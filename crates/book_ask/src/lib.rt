@@ -1,16 +1,23 @@
-// Whether two templates of an accepted book clash. Their question is written as a sheet and settled, without an order, since the verdict alone counts; what was asked
-// before of the same templates is looked up in the list.
+// Whether two templates of a book clash. Their question is written as a sheet and settled, without an order, since the verdict alone counts; what was asked
+// before of the same templates is remembered.
 use book_question::MOST_QUESTION;
 use book_question::put_question;
 use book_repeats::first_alike;
-use book_repeats::listed;
 use scan::stretch;
 ghost use mathlib.Core.Path.{_≡_};
 ghost use Prim.Native.Nat.{_<_};
 ghost use lib.ListN.{length};
+ghost use Rattle.model.specs.Lists.{pick};
 ghost use Rattle.book.specs.Book.{bookOf, Admitted};
 ghost use Rattle.book.specs.Pairs as model;
-ghost use Rattle.book_ask.specs.Before.{before};
+ghost use Rattle.book_ask.specs.Verdicts.{Remembers};
+
+// Verdicts are remembered in a table of 16 rows of 16 bytes: that of templates a and b in row a, at b.
+const ROW: usize = 16;
+
+const APART: u8 = 1;
+
+const CLASH: u8 = 2;
 
 // Whether templates i and j clash.
 fn clash(book: &[u8], i: usize, j: usize) -> bool
@@ -23,18 +30,32 @@ fn clash(book: &[u8], i: usize, j: usize) -> bool
     found.ok
 }
 
-// Whether templates i and j clash, with the list of those before them: where an earlier template is the same as the one or the other, the list tells.
-pub fn settled(list: &[u8], book: &[u8], i: usize, j: usize) -> bool
-    requires { ⌜ Admitted (now book) × (i < j) × (j < length (bookOf (now book) .templates)) × (now list ≡ before (bookOf (now book)) i j) ⌝ }
+// A verdict as a byte.
+fn verdict(found: bool) -> u8
+    ensures { λ r. ⌜ r ≡ pick found 2 1 ⌝ }
+{
+    if found {
+        return CLASH;
+    }
+    APART
+}
+
+// Whether templates i and j clash. The first templates that are the same as they are asked, and only where their verdict is not known yet.
+pub fn settled(verdicts: &mut [u8], book: &[u8], i: usize, j: usize) -> bool
+    requires { ⌜ Admitted (now book) × (i < j) × (j < length (bookOf (now book) .templates)) × Remembers (bookOf (now book)) (now verdicts) ⌝ }
     ensures { λ r. ⌜ r ≡ model.clash (bookOf (now (book .entry))) i j ⌝ }
+    ensures { λ r. ⌜ Remembers (bookOf (now (book .entry))) (now (verdicts .exit)) ⌝ }
 {
     let a = first_alike(book, 0, i);
-    if a < i {
-        return listed(list, a, j);
+    let b = first_alike(book, a + 1, j);
+    let at = a * ROW + b;
+    if verdicts[at] == CLASH {
+        return true;
     }
-    let b = first_alike(book, i + 1, j);
-    if b < j {
-        return listed(list, i, b);
+    if verdicts[at] == APART {
+        return false;
     }
-    clash(book, i, j)
+    let found = clash(book, a, b);
+    verdicts[at] = verdict(found);
+    found
 }

@@ -164,24 +164,24 @@ fn walked(book: &[u8]) -> Walk
     }
 }
 
-// Whether a book has the mark and the version.
-fn opens(book: &[u8]) -> bool
-    ensures { λ r. ⌜ r ≡ model.opens (now (book .entry)) ⌝ }
+// Whether a file has this mark, and version 1.
+pub fn opens(file: &[u8], mark: &[u8]) -> bool
+    ensures { λ r. ⌜ r ≡ model.opens (now (mark .entry)) (now (file .entry)) ⌝ }
 {
-    if book.len() < OPENING {
+    if file.len() < OPENING {
         return false;
     }
-    if !starts_with(book, b"TPB") {
+    if !starts_with(file, mark) {
         return false;
     }
-    wide(book[VERSION_HIGH]) * 256 + wide(book[VERSION_LOW]) == VERSION
+    wide(file[VERSION_HIGH]) * 256 + wide(file[VERSION_LOW]) == VERSION
 }
 
 // Reads a book: accepted, or the first refusal in document 02's order. Any bytes are allowed.
 pub fn read(book: &[u8]) -> Reading
     ensures { λ r. ⌜ Reads (now (book .entry)) r ⌝ }
 {
-    if !opens(book) {
+    if !opens(book, b"TPB") {
         return Reading::Refused(Refusal::Mark);
     }
     match walked(book) {

@@ -45,3 +45,9 @@ number-decided (finished (n ∷ others)) v h from-one e = ap (λ k. finished (k 
 pub same-returned : (a : Answer) → returned (unnumbered a) ≡ returned a
 same-returned (refused n) = refl
 same-returned (finished values) = refl
+
+-- an answer that has a first value, and returns a number, decides it
+pub counted-decision : (a : Answer) (n : ℕ) → ((k : ℕ) → a ≡ refused k → 1 ≤ k) → (a ≡ finished [] → ⊥) → returnedNumber a ≡ pos n → decision a ≡ finished (n ∷ [])
+counted-decision (refused k) n from-one some e = negative k (from-one k refl) e
+counted-decision (finished []) n from-one some e = absurd (some refl)
+counted-decision (finished (v ∷ others)) n from-one some e = ap (λ m. finished (m ∷ [])) (pos-equal e)

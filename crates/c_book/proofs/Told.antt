@@ -1,22 +1,16 @@
 -- What the number tells that `tpl_book` returns: from 0 on it is how many pairs of templates clash, and their list is in the buffer. Assumes nothing.
-use mathlib.Core.Path.{_≡_, refl, sym, ap, _∙_}
-use mathlib.Core.List.{List, [], _∷_}
-use Prim.Native.Nat.{ℕ, _≤_}
+use mathlib.Core.Path.{_≡_, refl, sym, _∙_}
+use mathlib.Core.List.{List}
+use Prim.Native.Nat.{ℕ}
 use lib.IntN.{ℤ, pos}
 use lib.ListN.{length}
 use Rattle.model.specs.Lists.{Bytes}
 use Rattle.book.specs.Book.{bookOf}
-use Rattle.calls.specs.Calls.{Answer, refused, finished, comparing, decision, Decides}
+use Rattle.calls.specs.Calls.{comparing, decision, Decides}
 use Rattle.calls.proofs.Comparing.{comparing-refused, comparing-counts}
 use Rattle.calls.proofs.BookOfTemplates.{ListsTheClashes, lists-the-clashes}
 use Rattle.c_answer.specs.Returned.{returnedNumber, Decided}
-use Rattle.c_answer.proofs.Told.{negative, pos-equal, same-decision}
-
--- an answer that has a first value, and returns a number, decides it
-counted-decision : (a : Answer) (n : ℕ) → ((k : ℕ) → a ≡ refused k → 1 ≤ k) → (a ≡ finished [] → ⊥) → returnedNumber a ≡ pos n → decision a ≡ finished (n ∷ [])
-counted-decision (refused k) n from-one some e = negative k (from-one k refl) e
-counted-decision (finished []) n from-one some e = absurd (some refl)
-counted-decision (finished (v ∷ others)) n from-one some e = ap (λ m. finished (m ∷ [])) (pos-equal e)
+use Rattle.c_answer.proofs.Told.{same-decision, counted-decision}
 
 module _ (b before after : List ℕ) (r : ℤ) (call : Decided (comparing b (length before)) before r after) where
   -- what `tpl_book` does is what `Decides` says

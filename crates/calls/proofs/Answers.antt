@@ -1,4 +1,4 @@
--- Checking, spelling, counting, writing lines and files, searching and comparing a book's templates, computed: inputs with their answers, most of the damaged ones with two faults at once,
+-- Checking, spelling, counting, writing lines and files, searching and comparing a book's templates, without and with hours, computed: inputs with their answers, most of the damaged ones with two faults at once,
 -- so that the order of the refusals is a theorem. Assumes nothing.
 use mathlib.Core.Path.{_≡_, refl}
 use mathlib.Core.List.{List, [], _∷_, _++_, map}
@@ -15,12 +15,15 @@ use Rattle.model.specs.Cells.{cells}
 use Rattle.formula.specs.Clause.{terms, leftOut, literals, least, spread, sums, placeIds, locationIds, equationIds, constraintIds, listed, ids}
 use Rattle.formula.specs.Numbering.{kVariables, sVariables, tVariables, variables, number, clause}
 use Rattle.formula.specs.Dimacs.{digits, decimal, problemLine, clauseLine, line, file, fileSize}
-use Rattle.calls.specs.Calls.{Answer, refused, finished, checking, spellingOf, spelling, written, searchingOf, searching, counting, writingOf, writing, filingOf, filing, comparingOf, comparing}
+use Rattle.calls.specs.Calls.{Answer, refused, finished, checking, spellingOf, spelling, written, searchingOf, searching, counting, writingOf, writing, filingOf, filing, listing, comparing, scheduling}
 use Rattle.model.proofs.Computed.{sheet, P}
 use Rattle.book.specs.Book.{mark, count, someSymbols, aTemplate, someTemplates, body, opens, readBook}
 use Rattle.book.specs.Pairs.{pairs, clashing, listBytes}
 use Rattle.book.specs.Pairs as question
 use Rattle.book.proofs.Computed.{book, three-bytes}
+use Rattle.schedule.specs.Schedule.{minute, anInterval, someIntervals, tested, allTested, readHours}
+use Rattle.schedule.specs.Shared.{sent, share, sharing}
+use Rattle.schedule.proofs.Computed.{hours}
 
 -- over A and B the fields X of limit 2 and Y of limit 1, and the pairs XAY, AY and Y, nothing
 abbrev pub asked : List ℕ
@@ -262,5 +265,42 @@ compares =
     ∷ []
 
 pub compare-answers : map (λ (c : Compare). comparing (c .on) (c .room)) compares ≡ map (λ (c : Compare). c .answer) compares
-unfolding startsWith row times width count someSymbols aTemplate someTemplates body opens readBook each from all any same spell weight sameLetter sameWord equationHolds constraintHolds keeps solves allTexts substitutions solvable keep question.asked pairs clashing listBytes comparingOf comparing
+unfolding startsWith row times width count someSymbols aTemplate someTemplates body opens readBook each from all any same spell weight sameLetter sameWord equationHolds constraintHolds keeps solves allTexts substitutions solvable keep question.asked pairs clashing listBytes listing comparing
 compare-answers = refl
+
+-- A book's list with hours. The book has three empty templates, which all clash with each other.
+abbrev three-empty : List ℕ
+three-empty = book (1 ∷ 65 ∷ 3 ∷ 0 ∷ 0 ∷ 0 ∷ 0 ∷ 0 ∷ 0 ∷ [])
+
+pub record Scheduled : Type 0 where
+  pub of-book : List ℕ
+  pub of-hours : List ℕ
+  pub room : ℕ
+  pub answer : Answer
+
+abbrev scheduled : List ℕ → List ℕ → ℕ → Answer → Scheduled
+scheduled b h room a = record { of-book = b; of-hours = h; room = room; answer = a }
+
+abbrev schedules : List Scheduled
+schedules =
+    -- the first hour, the next one, and the last minute of the one with the first of the other; just room enough, though all that clash would not fit; a byte less
+    (scheduled three-empty (hours (1 ∷ 0 ∷ 0 ∷ 0 ∷ 60 ∷ 1 ∷ 0 ∷ 60 ∷ 0 ∷ 120 ∷ 1 ∷ 0 ∷ 59 ∷ 0 ∷ 61 ∷ [])) 4 (finished (2 ∷ 0 ∷ 2 ∷ 1 ∷ 2 ∷ [])))
+    ∷ (scheduled three-empty (hours (1 ∷ 0 ∷ 0 ∷ 0 ∷ 60 ∷ 1 ∷ 0 ∷ 60 ∷ 0 ∷ 120 ∷ 1 ∷ 0 ∷ 59 ∷ 0 ∷ 61 ∷ [])) 3 (refused 42))
+    -- a template without windows; none with any
+    ∷ (scheduled three-empty (hours (0 ∷ 1 ∷ 0 ∷ 0 ∷ 39 ∷ 96 ∷ 1 ∷ 39 ∷ 95 ∷ 39 ∷ 96 ∷ [])) 2 (finished (1 ∷ 1 ∷ 2 ∷ [])))
+    ∷ (scheduled three-empty (hours (0 ∷ 0 ∷ 0 ∷ [])) 0 (finished (0 ∷ [])))
+    -- the book's faults before those of the hours, which are empty; 43, 44 and 45 before 42, with no room at all
+    ∷ (scheduled [] [] 0 (refused 40))
+    ∷ (scheduled (book []) [] 0 (refused 41))
+    ∷ (scheduled three-empty [] 0 (refused 43))
+    ∷ (scheduled three-empty (hours (0 ∷ 0 ∷ [])) 0 (refused 43))
+    ∷ (scheduled three-empty (hours (1 ∷ 0 ∷ 9 ∷ 0 ∷ 9 ∷ 0 ∷ 0 ∷ [])) 0 (refused 44))
+    ∷ (scheduled three-empty (hours (2 ∷ 0 ∷ 0 ∷ 0 ∷ 9 ∷ 0 ∷ 8 ∷ 0 ∷ 20 ∷ 0 ∷ 0 ∷ [])) 0 (refused 45))
+    -- all at once: 43 first, then of one window 44
+    ∷ (scheduled three-empty (hours (2 ∷ 0 ∷ 0 ∷ 0 ∷ 9 ∷ 0 ∷ 8 ∷ 0 ∷ 8 ∷ 0 ∷ 5 ∷ [])) 0 (refused 43))
+    ∷ (scheduled three-empty (hours (2 ∷ 0 ∷ 0 ∷ 0 ∷ 9 ∷ 0 ∷ 8 ∷ 0 ∷ 8 ∷ 0 ∷ 0 ∷ [])) 0 (refused 44))
+    ∷ []
+
+pub schedule-answers : map (λ (c : Scheduled). scheduling (c .of-book) (c .of-hours) (c .room)) schedules ≡ map (λ (c : Scheduled). c .answer) schedules
+unfolding startsWith row times width count someSymbols aTemplate someTemplates body opens readBook minute anInterval someIntervals tested allTested readHours sent share sharing each from all any same spell weight sameLetter sameWord equationHolds constraintHolds keeps solves allTexts substitutions solvable keep question.asked pairs clashing listBytes listing scheduling
+schedule-answers = refl

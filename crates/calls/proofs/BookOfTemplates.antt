@@ -3,7 +3,7 @@
 -- `before` stood. Assumes nothing.
 use mathlib.Core.Path.{_≡_, refl, sym, ap, subst, _∙_}
 use mathlib.Core.Logic.{_↔_}
-use mathlib.Core.Bool.{true}
+use mathlib.Core.Bool.{Bool, true}
 use mathlib.Core.List.{List, [], _∷_, _++_, map}
 use Prim.Native.Nat.{ℕ, _+_, _*_, _<_, _≤_}
 use native.Mathlib.Omega.{arith}
@@ -15,8 +15,8 @@ use Rattle.model.specs.Range.{InRange}
 use Rattle.model.specs.Solvable.{solvable}
 use Rattle.book.specs.Book as book
 use Rattle.book.specs.Book.{Book, template, readBook, encodeBook, BookIn, bookOf}
-use Rattle.book.specs.Pairs.{numberedAfter, asked, question, clash, Clash, Pair, clashing, pairBytes, listBytes, Precedes}
-use Rattle.calls.specs.Calls.{Answer, refused, finished, verdict, searching, decision, Decides, comparing}
+use Rattle.book.specs.Pairs.{numberedAfter, asked, question, clash, Clash, Pair, kept, clashing, pairBytes, listBytes, Precedes}
+use Rattle.calls.specs.Calls.{Answer, refused, finished, verdict, searching, decision, Decides, listing, comparing}
 use Rattle.calls.specs.Rules.{Kept, bookRules, comparingRules}
 use borrow.Author.Tests.{ltb-true, ltb-false}
 use Rattle.model.proofs.Lists.{by-test, weaken, from-at}
@@ -24,9 +24,9 @@ use Rattle.model.proofs.Known.{accepted-as}
 use Rattle.book.proofs.Reading as reading
 use Rattle.book.proofs.Question.{question-in-range, question-read}
 use Rattle.book.proofs.Meaning.{clash-means}
-use Rattle.book.proofs.Listed.{listed-clash, clash-listed, listed-in-order, listed-once, list-size, clashing-few}
+use Rattle.book.proofs.Listed.{kept-pass, pass-kept, kept-in-order, kept-once, list-size, kept-few, clashing-kept}
 use Rattle.calls.proofs.Searching as searches
-use Rattle.calls.proofs.Comparing.{finished-listed, comparing-room, comparing-finished}
+use Rattle.calls.proofs.Comparing.{listing-short, listing-fits, comparing-accepted, Listed, finished-listed}
 use Rattle.calls.proofs.Operations.{not-finished}
 use Rattle.calls.proofs.Ordered.{kept-goes, first-fails, first-or-none}
 use Rattle.calls.proofs.Demands.{InOrder, Unchanged, in-order}
@@ -88,20 +88,43 @@ pub record Stands (p : Pair) (ps : List Pair) : Type 0 where
   pub inside : place < length ps
   pub there : getD ps place (record { first = 0; second = 0 }) ≡ p
 
--- "The answer lists each clashing (i, j) once, by i then j, one byte for i and one for j; templates .., like pairs, count from 0. It lists all of them and no others,
--- gives their number, and leaves later bytes unchanged."
-pub record ListsTheClashes (k : Book) (before after : List ℕ) (number : ℕ) : Type 0 where
+-- "The answer lists each .. (i, j) once, by i then j, one byte for i and one for j; templates .., like pairs, count from 0. It lists all of them and no others, gives
+-- their number, and leaves later bytes unchanged.": of n templates all pairs of which something is so, as that they clash
+pub record Lists (C : ℕ → ℕ → Type 0) (n : ℕ) (before after : List ℕ) (number : ℕ) : Type 0 where
   pub list : List Pair
   pub bytes : after ≡ each list pairBytes ++ drop (2 * length list) before
   pub their-number : number ≡ length list
-  pub all-of-them : (i j : ℕ) → i < j → j < length (k .templates) → Clash k i j → Stands (record { first = i; second = j }) list
-  pub no-others : All (λ p. (p .first < p .second) × (p .second < length (k .templates)) × Clash k (p .first) (p .second)) list
-  pub once : (d : Pair) (m n : ℕ) → m < n → n < length list → getD list m d ≡ getD list n d → ⊥
+  pub all-of-them : (i j : ℕ) → i < j → j < n → C i j → Stands (record { first = i; second = j }) list
+  pub no-others : All (λ p. (p .first < p .second) × (p .second < n) × C (p .first) (p .second)) list
+  pub once : (d : Pair) (k m : ℕ) → k < m → m < length list → getD list k d ≡ getD list m d → ⊥
   -- each precedes those after it
-  pub in-order : (d : Pair) (m n : ℕ) → m < n → n < length list → Precedes (getD list m d) (getD list n d)
+  pub in-order : (d : Pair) (k m : ℕ) → k < m → m < length list → Precedes (getD list k d) (getD list m d)
 
 all-stand : (ps : List Pair) → All (λ p. Stands p ps) ps
 all-stand ps = from-at (λ p. Stands p ps) (record { first = 0; second = 0 }) ps (λ i l. record { place = i; inside = l; there = refl })
+
+-- such is a list of those that pass a test which tells it
+pub lists-kept : (t : ℕ → ℕ → Bool) (C : ℕ → ℕ → Type 0) (n : ℕ) → ((i j : ℕ) → i < j → j < n → (t i j ≡ true) ↔ C i j)
+    → (before after : List ℕ) (number : ℕ) → Listed (kept t n) before after (number ∷ []) → Lists C n before after number
+unfolding listBytes
+lists-kept t C n means before after number l =
+    let ps : List Pair = kept t n in
+    record {
+      list = ps;
+      bytes = l .bytes ∙ ap (λ m. listBytes ps ++ drop m before) (list-size ps);
+      their-number = first-same (l .number);
+      all-of-them = λ i j a c h. pass-kept t n (λ p. Stands p ps) (all-stand ps) i j a c (means i j a c .1 h);
+      no-others = weaken _ _ ps (λ p h. (h .0, h .1, means (p .first) (p .second) (h .0) (h .1) .0 (h .2))) (kept-pass t n);
+      once = kept-once t n;
+      in-order = kept-in-order t n;
+    }
+  where
+    first-same : {m n : ℕ} → _≡_ {A = List ℕ} (m ∷ []) (n ∷ []) → m ≡ n
+    first-same e = cc
+
+-- "The answer lists each clashing (i, j)"
+abbrev pub ListsTheClashes : Book → List ℕ → List ℕ → ℕ → Type 0
+ListsTheClashes k = Lists (Clash k) (length (k .templates))
 
 module _ (b before after : List ℕ) (answer : Answer) (call : Decides (comparing b (length before)) before answer after) where
   -- "40 when the book is under five bytes or mark or version is wrong. 41 when a count, letter, limit, symbol or width breaks a range given here or a sheet's rule for
@@ -112,28 +135,15 @@ module _ (b before after : List ℕ) (answer : Answer) (call : Decides (comparin
       (rw (call .0) (in-order (decision-ordered (comparing-ordered b (length before)))), searches.refused-unchanged (comparing b (length before)) call)
 
   pub lists-the-clashes : Bytes b → (number : ℕ) → answer ≡ finished (number ∷ []) → ListsTheClashes (bookOf b) before after number
-  unfolding listBytes
   lists-the-clashes y number e =
-      let c = finished-listed b before after (number ∷ []) (sym e ∙ call .0, call .1) in
+      let c = finished-listed before after (number ∷ []) b (sym e ∙ call .0, call .1) in
       let k : Book = bookOf b in
-      let ok = reading.accepted-encode b y (c .admitted) .1 in
-      let size = list-size k in
-      record {
-        list = clashing k;
-        bytes = c .bytes ∙ ap (λ n. listBytes k ++ drop n before) size;
-        their-number = first-same (c .number);
-        all-of-them = λ i j l m h. clash-listed k (λ p. Stands p (clashing k)) (all-stand (clashing k)) i j l m (clash-means k ok i j (omega arith) .1 h);
-        no-others = weaken _ _ (clashing k) (λ p h. (h .0, h .1, clash-means k ok (p .first) (p .second) (omega (arith, h .0, h .1)) .0 (h .2))) (listed-clash k);
-        once = listed-once k;
-        in-order = listed-in-order k;
-      }
-    where
-      first-same : {m n : ℕ} → _≡_ {A = List ℕ} (m ∷ []) (n ∷ []) → m ≡ n
-      first-same e = cc
+      let ok = reading.accepted-encode b y (c .0) .1 in
+      lists-kept (clash k) (Clash k) (length (k .templates)) (λ i j l m. clash-means k ok i j (omega arith)) before after number (subst (λ ps. Listed ps before after (number ∷ [])) (clashing-kept k) (c .1))
 
 -- the list has at most 120 pairs, so 240 bytes
-pub lists-are-short : (k : Book) → BookIn k → length (listBytes k) ≤ 240
-lists-are-short k ok = omega (arith, list-size k, clashing-few k (ok .of-templates .1))
+pub lists-are-short : (k : Book) → BookIn k → length (listBytes (clashing k)) ≤ 240
+lists-are-short k ok = omega (arith, list-size (clashing k), kept-few (clash k) (length (k .templates)) (ok .of-templates .1), ap length (clashing-kept k))
 
 -- A book is accepted exactly when it breaks none of the rules for 40 and 41.
 pub accepted-breaks-none : (b : List ℕ) → ((k : Book) × (readBook b ≡ book.accepted k)) ↔ Kept (bookRules b)
@@ -146,13 +156,18 @@ accepted-breaks-none b =
     not-accepted : {P : Type 0} {n : ℕ} {k : Book} → book.refused n ≡ book.accepted k → P
     not-accepted e = let z : _≡_ {A = ℕ} 0 1 = cc in absurd (omega arith)
 
+-- a list is refused with 42 exactly when there are fewer than two bytes for each of its pairs
+pub short-exactly : (ps : List Pair) (room : ℕ) {a : Answer} → a ≡ listing ps room → (a ≡ refused 42) ↔ (room < 2 * length ps)
+short-exactly ps room e =
+    let size = list-size ps in (
+      (λ q. by-test (ltb room (2 * length ps))
+          (λ t. ltb-true room _ t)
+          (λ t. let h = ltb-false room _ t in not-finished (sym q ∙ e ∙ listing-fits ps room (omega arith)))),
+      λ h. e ∙ listing-short ps room (omega arith),
+    )
+
 -- "42 when the list's buffer is shorter than the list": of an accepted book, exactly when it has fewer than two bytes for each pair that clashes
 pub too-short-exactly : (b : List ℕ) → Bytes b → (k : Book) → readBook b ≡ book.accepted k → (room : ℕ) → (comparing b room ≡ refused 42) ↔ (room < 2 * length (clashing (bookOf b)))
 too-short-exactly b y k e room =
     let ok = reading.accepted-admitted b y e in
-    let size = list-size (bookOf b) in (
-      (λ q. by-test (ltb room (2 * length (clashing (bookOf b))))
-          (λ t. ltb-true room _ t)
-          (λ t. let h = ltb-false room _ t in not-finished (sym q ∙ comparing-finished b room ok (omega arith)))),
-      λ h. comparing-room b room ok (omega arith),
-    )
+    short-exactly (clashing (bookOf b)) room (comparing-accepted b room (ok .0))

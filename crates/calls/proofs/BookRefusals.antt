@@ -14,12 +14,20 @@ use Rattle.model.specs.Lists.{pick, startsWith}
 use Rattle.model.specs.Sheet.{Step, got, fault, _then_, letterByte, limitByte, templateByte, width, byte, sixteen}
 use Rattle.book.specs.Book as book
 use Rattle.book.specs.Book.{Book, count, someSymbols, aTemplate, someTemplates, body, opens, ended, readBook, bookOf}
-use Rattle.book.specs.Pairs.{listBytes}
-use Rattle.calls.specs.Calls.{refused, ofBook, listValues, comparingOf, comparing}
-use Rattle.calls.specs.Rules.{Rule, _asks_, symbolsAt, countRules, symbolsRules, templateRules, templateBytes, templatesAt, bookEnd, bodyRules, asBook, bookRules, comparingRules}
+use Rattle.book.specs.Pairs.{clashing}
+use Rattle.calls.specs.Calls.{refused, ofBook, listValues, listing, comparing}
+use Rattle.calls.specs.Rules.{Rule, _asks_, symbolsAt, countRules, symbolsRules, templateRules, templateBytes, templatesAt, bookEnd, bodyRules, asBook, bookRules, listRule, comparingRules}
 use Rattle.model.proofs.Lists.{by-test}
 use Rattle.calls.proofs.Ordered.{inOrder, order-append, order-through, kept-goes, first-fails, Ordered, ordered-after, Follows, follows-from, follows-wrapped, follows-got, follows-must}
 use Rattle.calls.proofs.FirstRefusals.{row-then, several-follow}
+
+-- a mark and a version are three tests with one number
+pub three-tests : {R : Type 0} (p q r : Bool) (n : ℕ) (go : R) (fail : ℕ → R) → pick (p && (q && r)) go (fail n) ≡ inOrder fail ((n asks p) ∷ (n asks q) ∷ (n asks r) ∷ []) go
+unfolding inOrder
+three-tests true true true n go fail = refl
+three-tests true true false n go fail = refl
+three-tests true false r n go fail = refl
+three-tests false q r n go fail = refl
 
 module _ (b : List ℕ) where
   count-follows : (low high k : ℕ) → count low high (drop k b) ≡ inOrder fault (countRules b low high k) (got (byte b k) (drop (k + 1) b))
@@ -72,13 +80,6 @@ module _ (b : List ℕ) where
       (λ t. rw (t, drop-of-length-le b (leb-true (length b) e t)))
       (λ t. rw (t, drop-cons b e 0 (leb-false (length b) e t)))
 
-  three-tests : {R : Type 0} (p q r : Bool) (go : R) (fail : ℕ → R) → pick (p && (q && r)) go (fail 40) ≡ inOrder fail ((40 asks p) ∷ (40 asks q) ∷ (40 asks r) ∷ []) go
-  unfolding inOrder
-  three-tests true true true go fail = refl
-  three-tests true true false go fail = refl
-  three-tests true false r go fail = refl
-  three-tests false q r go fail = refl
-
   -- the book that is read, where none is broken
   pub book-follows : (k : Book) × (readBook b ≡ inOrder book.refused (bookRules b) (book.accepted k))
   unfolding readBook opens bookRules
@@ -88,7 +89,7 @@ module _ (b : List ℕ) where
       let last = (41 asks leb (length b) (bookEnd b)) ∷ [] in
       let first = (40 asks leb 5 (length b)) ∷ (40 asks startsWith book.mark b) ∷ (40 asks eqb (sixteen (byte b 3) (byte b 4)) 1) ∷ [] in (
         k,
-        three-tests (leb 5 (length b)) (startsWith book.mark b) (eqb (sixteen (byte b 3) (byte b 4)) 1) (ended (body (drop 5 b))) book.refused
+        three-tests (leb 5 (length b)) (startsWith book.mark b) (eqb (sixteen (byte b 3) (byte b 4)) 1) 40 (ended (body (drop 5 b))) book.refused
             ∙ ap (inOrder book.refused first)
             (ap ended (walked .is)
             ∙ order-through ended fault (λ n. book.refused 41) (λ n. refl) (bodyRules b) (got k (drop (bookEnd b) b))
@@ -99,10 +100,10 @@ module _ (b : List ℕ) where
       )
 
 pub comparing-ordered : (b : List ℕ) (room : ℕ) → Ordered (comparingRules b room) (comparing b room)
-unfolding comparing comparingOf comparingRules bookOf inOrder
+unfolding comparing listing comparingRules bookOf inOrder
 comparing-ordered b room =
     let k = book-follows b .0 in
     let is = book-follows b .1 in
-    ordered-after (bookRules b) ((42 asks leb (length (listBytes (bookOf b))) room) ∷ []) (comparing b room)
-    (λ h. let r : readBook b ≡ book.accepted k = is ∙ kept-goes book.refused (bookRules b) (book.accepted k) h in rw r (record { values = listValues k; is = refl }))
-    (λ n f. ap (λ x. ofBook x (λ k. comparingOf k room)) (is ∙ first-fails book.refused (bookRules b) (book.accepted k) f))
+    ordered-after (bookRules b) (listRule (clashing (bookOf b)) room ∷ []) (comparing b room)
+    (λ h. let r : readBook b ≡ book.accepted k = is ∙ kept-goes book.refused (bookRules b) (book.accepted k) h in rw r (record { values = listValues (clashing k); is = refl }))
+    (λ n f. ap (λ x. ofBook x (λ k. listing (clashing k) room)) (is ∙ first-fails book.refused (bookRules b) (book.accepted k) f))

@@ -16,10 +16,12 @@ pub mod Ordered
 pub mod Filing
 pub mod FirstRefusals
 pub mod BookRefusals
+pub mod HoursRefusals
 pub mod Demands
 pub mod FirstClash
 pub mod TickedOff
 pub mod BookOfTemplates
+pub mod ShopHours
 pub mod FileSize
 pub mod LeftOver
 pub mod Listings

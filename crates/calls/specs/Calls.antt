@@ -15,7 +15,10 @@ use Rattle.model.specs.Order.{firstSolution}
 use Rattle.model.specs.Filling.{filling, encodeFilling}
 use Rattle.book.specs.Book as book
 use Rattle.book.specs.Book.{Book, readBook}
-use Rattle.book.specs.Pairs.{clashing, listBytes}
+use Rattle.book.specs.Pairs.{Pair, clashing, listBytes}
+use Rattle.schedule.specs.Schedule as schedule
+use Rattle.schedule.specs.Schedule.{Schedule, readHours}
+use Rattle.schedule.specs.Shared.{sharing}
 use Rattle.formula.specs.Clause.{ids}
 use Rattle.formula.specs.Numbering.{variables}
 use Rattle.formula.specs.Dimacs.{line, file, fileSize}
@@ -190,16 +193,24 @@ abbrev pub HandsOver : Answer → List ℕ → Answer → List ℕ → Type 0
 HandsOver a before answer after = (answer ≡ unnumbered a) × (after ≡ written a before)
 
 -- A book's list (document 02, No. 3), "40 .. 41 .. 42 when the list's buffer is shorter than the list; they are tested in this order". The values are the
--- number of clashing pairs, and then the list's bytes; the call answers the first and hands over the others, as `Decides` says.
+-- number of listed pairs, and then the list's bytes; the call answers the first and hands over the others, as `Decides` says.
 abbrev pub ofBook : book.Reading → (Book → Answer) → Answer
 ofBook (book.accepted k) go = go k
 ofBook (book.refused n) go = refused n
 
-abbrev pub listValues : Book → List ℕ
-listValues k = length (clashing k) ∷ listBytes k
+abbrev pub listValues : List Pair → List ℕ
+listValues ps = length ps ∷ listBytes ps
 
-unfoldable pub comparingOf : Book → ℕ → Answer
-comparingOf k room = require (leb (length (listBytes k)) room) 42 (finished (listValues k))
+unfoldable pub listing : List Pair → ℕ → Answer
+listing ps room = require (leb (length (listBytes ps)) room) 42 (finished (listValues ps))
 
 unfoldable pub comparing : List ℕ → ℕ → Answer
-comparing b room = ofBook (readBook b) (λ k. comparingOf k room)
+comparing b room = ofBook (readBook b) (λ k. listing (clashing k) room)
+
+-- A book's list with hours (document 02, No. 6): "43 comes after 41, then 44 and 45 window by window, then 42."
+abbrev pub ofHours : schedule.Reading → (Schedule → Answer) → Answer
+ofHours (schedule.accepted s) go = go s
+ofHours (schedule.refused n) go = refused n
+
+unfoldable pub scheduling : List ℕ → List ℕ → ℕ → Answer
+scheduling b h room = ofBook (readBook b) (λ k. ofHours (readHours (length (k .templates)) h) (λ s. listing (sharing k s) room))

@@ -1,8 +1,8 @@
 -- The rules of each call as one list in document 01's order (a book's in document 02's), a rule being the number of its refusal and whether it is kept (a sheet's own
 -- rules, over lengths, are constraints here). Nothing is walked here: a byte is found by its offset. So "the first refusal number that
--- applies, in the order given there" is said apart from the way in which a call finds it; `Demands.antt`, of a book `BookOfTemplates.antt` and of the whole file `FileSize.antt` show that each call gives it.
+-- applies, in the order given there" is said apart from the way in which a call finds it; `Demands.antt`, of a book `BookOfTemplates.antt`, with hours `ShopHours.antt`, and of the whole file `FileSize.antt` show that each call gives it.
 use mathlib.Core.Path.{_≡_}
-use mathlib.Core.Bool.{Bool, true, false}
+use mathlib.Core.Bool.{Bool, true, false, _&&_}
 use mathlib.Core.List.{List, [], _∷_, _++_, map}
 use Prim.Native.Nat.{ℕ, zero, suc, _+_, _*_}
 use lib.Dec.{leb, ltb, eqb}
@@ -13,7 +13,11 @@ use Rattle.model.specs.Word.{solves}
 use Rattle.model.specs.Filling.{filling, substitutionIn}
 use Rattle.book.specs.Book as book
 use Rattle.book.specs.Book.{bookOf}
-use Rattle.book.specs.Pairs.{listBytes}
+use Rattle.book.specs.Pairs.{Pair, clashing, listBytes}
+use Rattle.schedule.specs.Schedule as schedule
+use Rattle.schedule.specs.Schedule.{scheduleOf}
+use Rattle.schedule.specs.Shared.{sharing}
+use Rattle.schedule.specs.Offsets.{minuteAt}
 use Rattle.formula.specs.Clause.{ids}
 use Rattle.formula.specs.Numbering.{variables}
 use Rattle.formula.specs.Dimacs.{line, fileSize}
@@ -214,5 +218,41 @@ bookRules b =
     ∷ (map asBook (bodyRules b) ++ ((41 asks leb (length b) (bookEnd b)) ∷ []))
 
 -- "42 when the list's buffer is shorter than the list; they are tested in this order"
+abbrev pub listRule : List Pair → ℕ → Rule
+listRule ps room = 42 asks leb (length (listBytes ps)) room
+
 unfoldable pub comparingRules : List ℕ → ℕ → List Rule
-comparingRules b room = bookRules b ++ ((42 asks leb (length (listBytes (bookOf b))) room) ∷ [])
+comparingRules b room = bookRules b ++ (listRule (clashing (bookOf b)) room ∷ [])
+
+-- The rules of an hours file (document 02, No. 6), of its bytes h, for n templates. The template's count at offset k, and its windows' bytes: "43 when .. a count
+-- is above 4, or bytes are missing".
+abbrev pub ownRules : List ℕ → ℕ → List Rule
+ownRules h k = (43 asks ltb k (length h)) ∷ (43 asks leb (byte h k) 4) ∷ (43 asks leb (k + 1 + 4 * byte h k) (length h)) ∷ []
+
+-- so many windows from offset k on, the end of the preceding one given: "44 when a start is not below its end or an end is above 10,080. 45 when a window starts
+-- before the preceding one of its template ends."
+unfoldable pub windowRules : List ℕ → ℕ → ℕ → ℕ → List Rule
+windowRules h before k zero = []
+windowRules h before k (suc n) =
+    (44 asks (ltb (minuteAt h k) (minuteAt h (k + 2)) && leb (minuteAt h (k + 2)) 10080))
+    ∷ (45 asks leb before (minuteAt h k))
+    ∷ windowRules h (minuteAt h (k + 2)) (k + 4) n
+
+-- "43 when mark or version is wrong, a count is above 4, or bytes are missing or left over for the book's templates.", and "then 44 and 45 window by window"
+abbrev pub ownBytes : List ℕ → ℕ → ℕ
+ownBytes h k = 1 + 4 * byte h k
+
+unfoldable pub hoursRules : ℕ → List ℕ → List Rule
+hoursRules n h =
+    (43 asks leb 5 (length h))
+    ∷ (43 asks startsWith schedule.mark h)
+    ∷ (43 asks eqb (sixteen (byte h 3) (byte h 4)) 1)
+    ∷ (severalRules n (ownRules h) (ownBytes h) 5
+    ++ ((43 asks leb (length h) (past n (ownBytes h) 5)) ∷ severalRules n (λ k. windowRules h 0 (k + 1) (byte h k)) (ownBytes h) 5))
+
+-- "43 comes after 41, then 44 and 45 window by window, then 42."
+unfoldable pub schedulingRules : List ℕ → List ℕ → ℕ → List Rule
+schedulingRules b h room =
+    bookRules b
+    ++ (hoursRules (length (bookOf b .templates)) h
+    ++ (listRule (sharing (bookOf b) (scheduleOf (length (bookOf b .templates)) h)) room ∷ []))

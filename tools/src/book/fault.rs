@@ -2,6 +2,7 @@
 //! more; a walk through the bytes here finds the rest. What a book may have is not judged by it: it is asked only of books that are refused.
 
 use super::form::OPENING;
+use crate::walk::{self, Walk};
 use lunthegyr::{Refusal, FIELD_SYMBOL};
 
 /// What is wrong with a book.
@@ -21,11 +22,7 @@ pub enum Broken {
 impl Broken {
     /// The refusal's number, what is wrong in words, and a note if there is one.
     pub fn told(self, refusal: Refusal, note: &str) -> String {
-        let told = format!("refused {}: {}", refusal.number(), self.words());
-        match note {
-            "" => told,
-            _ => format!("{told} ({note})"),
-        }
+        walk::told(refusal, self.words(), note)
     }
 
     fn words(self) -> &'static str {
@@ -42,23 +39,14 @@ impl Broken {
 
 /// The first fault on a walk through a book's bytes, and the offset of the byte where it is met.
 pub fn first(book: &[u8]) -> Option<(usize, Broken)> {
-    let mut walk = Walk { book, at: 0 };
+    let mut walk = Walk::new(book, Broken::Missing);
     let broken = walk.whole().err()?;
     Some((walk.at, broken))
 }
 
-/// A way through the bytes, up to an offset. Where a fault is met it stays at its byte.
-struct Walk<'a> {
-    book: &'a [u8],
-    at: usize,
-}
-
-impl Walk<'_> {
+impl Walk<'_, Broken> {
     fn whole(&mut self) -> Result<(), Broken> {
-        for &byte in OPENING {
-            self.byte(|next| next == byte, Broken::Opening)
-                .map_err(|_| Broken::Opening)?;
-        }
+        self.opening(OPENING, Broken::Opening)?;
         let letters = self.count(
             1,
             lunthegyr::LETTERS_MOST,
@@ -73,10 +61,7 @@ impl Walk<'_> {
         for _ in 0..templates {
             self.template(letters)?;
         }
-        match self.at == self.book.len() {
-            true => Ok(()),
-            false => Err(Broken::LeftOver),
-        }
+        self.end(Broken::LeftOver)
     }
 
     fn template(&mut self, letters: usize) -> Result<(), Broken> {
@@ -108,24 +93,6 @@ impl Walk<'_> {
             return Err(Broken::OfSheet(Refusal::Width));
         }
         Ok(())
-    }
-
-    /// A count or limit from one number to another.
-    fn count(&mut self, least: usize, most: usize, broken: Broken) -> Result<usize, Broken> {
-        let fits = |byte: u8| (least..=most).contains(&usize::from(byte));
-        self.byte(fits, broken).map(usize::from)
-    }
-
-    /// The next byte, which is passed, if it is as it must be.
-    fn byte(&mut self, fits: impl Fn(u8) -> bool, broken: Broken) -> Result<u8, Broken> {
-        match self.book.get(self.at) {
-            None => Err(Broken::Missing),
-            Some(&byte) if !fits(byte) => Err(broken),
-            Some(&byte) => {
-                self.at += 1;
-                Ok(byte)
-            }
-        }
     }
 }
 

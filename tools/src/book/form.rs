@@ -63,6 +63,12 @@ impl Form {
         self.bytes().into_iter().map(|row| row.0).collect()
     }
 
+    /// The templates' names.
+    pub fn names(&self) -> Vec<&str> {
+        let names = self.templates.iter();
+        names.map(|template| template.name.as_str()).collect()
+    }
+
     /// What a book says that the engine has accepted. Bytes know no names, so templates are t0, t1 and so on, and the fields of each f0, f1
     /// and f2.
     pub fn of_accepted(book: &Book) -> Form {

@@ -1,5 +1,5 @@
-//! Takes a book from a file, as text or as bytes, and has the engine answer it. The engine alone says whether it is a book; where it refuses it,
-//! `fault` tells why and where.
+//! Takes a book from a file, as text or as bytes, with its hours if it has any, and has the engine answer it. The engine alone says whether it is a book;
+//! where it refuses it, `fault` tells why and where.
 
 use super::fault::{self, Broken};
 use super::form::{Form, Part, Template};
@@ -8,9 +8,10 @@ use super::parse::{self, Read};
 use super::places::Places;
 use crate::file::{self, Content, File, Kind};
 use crate::form::width;
+use crate::hours::{input as hours, text};
 use crate::letters;
 use crate::source::{shown, Fault};
-use lunthegyr::{Book, Clashing, Refusal};
+use lunthegyr::{Book, Clashing, Hours, Refusal};
 
 /// An accepted book.
 pub struct Input {
@@ -18,9 +19,51 @@ pub struct Input {
     pub book: Book,
     /// Read back from the bytes, with the names of the text if it was given as one.
     pub form: Form,
+    /// When its templates are sent, if that is given.
+    pub hours: Option<Hours>,
+}
+
+/// How two templates stand to each other.
+#[derive(Clone, Copy, PartialEq)]
+pub enum Standing {
+    /// They clash, and share a minute if the book has hours.
+    Clash,
+    /// They clash, and are never sent in the same minute.
+    NeverBoth,
+    Apart,
 }
 
 impl Input {
+    /// The pairs that clash and, if the book has hours, share a minute.
+    pub fn listed(&self) -> &[Clashing] {
+        match &self.hours {
+            Some(hours) => hours.clashes(),
+            None => self.book.clashes(),
+        }
+    }
+
+    pub fn standing(&self, pair: Clashing) -> Standing {
+        let clash = self.book.clashes().contains(&pair);
+        match (clash, self.listed().contains(&pair)) {
+            (true, true) => Standing::Clash,
+            (true, false) => Standing::NeverBoth,
+            (false, listed) => {
+                assert!(
+                    !listed,
+                    "the engine lists with hours what it does not list without"
+                );
+                Standing::Apart
+            }
+        }
+    }
+
+    /// The book in the text form, with its hours.
+    pub fn text(&self) -> String {
+        let hours = self.hours.as_ref();
+        let hours = hours.map(|hours| text::lines(hours, &self.form.names()));
+        self.form.text() + &hours.unwrap_or_default()
+    }
+
     /// Every two templates, by the first and then by the second.
     pub fn pairs(&self) -> Vec<Clashing> {
         let all = self.book.templates();
@@ -34,11 +77,11 @@ impl Input {
     }
 }
 
-/// Takes a book from a file. What is wrong is told in words.
-pub fn load(path: &str) -> Result<Input, String> {
+/// Takes a book from a file, and its hours from another if one is given. What is wrong is told in words.
+pub fn load(path: &str, hours: Option<&str>) -> Result<Input, String> {
     let file = file::open(path, Kind::Book)?;
     match file.kind {
-        Kind::Book => of(file),
+        Kind::Book => of(file, hours),
         Kind::Sheet => Err(format!(
             "{}: this is a sheet and no book of templates; `lunthegyr check` takes it",
             file.name
@@ -46,12 +89,16 @@ pub fn load(path: &str) -> Result<Input, String> {
     }
 }
 
-/// The book of a file that has one.
-pub fn of(file: File) -> Result<Input, String> {
-    match file.content {
-        Content::Bytes(bytes) => of_bytes(file.name, bytes),
-        Content::Text(text) => of_text(file.name, &text),
+/// The book of a file that has one, with the hours of another.
+pub fn of(file: File, path: Option<&str>) -> Result<Input, String> {
+    let mut input = match file.content {
+        Content::Bytes(bytes) => of_bytes(file.name, bytes)?,
+        Content::Text(text) => of_text(file.name, &text, path)?,
+    };
+    if let Some(path) = path {
+        input.hours = Some(hours::load(path, &input.book, &input.form)?);
     }
+    Ok(input)
 }
 
 fn of_bytes(name: String, content: Vec<u8>) -> Result<Input, String> {
@@ -60,6 +107,7 @@ fn of_bytes(name: String, content: Vec<u8>) -> Result<Input, String> {
             name,
             form: Form::of_accepted(&book),
             book,
+            hours: None,
         }),
         Err(refusal) => Err(match fault::first(&content) {
             Some((offset, broken)) => {
@@ -70,16 +118,34 @@ fn of_bytes(name: String, content: Vec<u8>) -> Result<Input, String> {
     }
 }
 
-fn of_text(name: String, text: &str) -> Result<Input, String> {
-    let Read { form, places } = parse::parse(text).map_err(|fault| shown(&name, text, &fault))?;
-    match Book::read(form.book()) {
-        Ok(book) => Ok(Input {
-            name,
-            form: named(Form::of_accepted(&book), form),
-            book,
-        }),
-        Err(refusal) => Err(shown(&name, text, &refused(&form, &places, refusal))),
-    }
+/// The book of a text, with its own hours if it has any. Then there must not be a file of hours too.
+fn of_text(name: String, text: &str, path: Option<&str>) -> Result<Input, String> {
+    let told = |fault: Fault| shown(&name, text, &fault);
+    let Read {
+        form,
+        places,
+        hours,
+    } = parse::parse(text).map_err(told)?;
+    let book = Book::read(form.book()).map_err(|refusal| told(refused(&form, &places, refusal)))?;
+    let form = named(Form::of_accepted(&book), form);
+    let hours = match (hours, path) {
+        (None, _) => None,
+        (Some(read), None) => Some(hours::of_text(&read, &book, &form).map_err(told)?),
+        (Some(read), Some(path)) => {
+            return Err(told(Fault {
+                place: read.start,
+                message: format!(
+                    "the text has hours of its own, and {path} has hours too: give one of them"
+                ),
+            }))
+        }
+    };
+    Ok(Input {
+        name,
+        book,
+        form,
+        hours,
+    })
 }
 
 /// A book with the names of another that has the same parts.

@@ -1,26 +1,28 @@
 //! Shows which templates of a book clash as a table with a row and a column for each, and what each template is.
 
 use super::form::{Form, Template};
+use super::input::{Input, Standing};
 use lunthegyr::Clashing;
 
 const CLASH: &str = "X";
+const NEVER_BOTH: &str = "h";
 const APART: &str = ".";
 const ITSELF: &str = "-";
 
 /// The most of a template's name that is shown; the number beside it tells which one it is.
 const MOST_NAME: usize = 30;
-/// What the templates are stands beside their rows if no line is wider than this, and else under the table.
-const MOST_WIDE: usize = 110;
+/// The widest line. What the templates are stands beside their rows if that makes none wider, and else under the table.
+pub const MOST_WIDE: usize = 110;
 const BESIDE: &str = "   ";
 
 /// The table's lines.
-pub fn lines(form: &Form, clashes: &[Clashing]) -> Vec<String> {
-    let (labels, texts) = (labels(form), texts(form));
+pub fn lines(input: &Input) -> Vec<String> {
+    let (labels, texts) = (labels(&input.form), texts(&input.form));
     let all = 0..labels.len();
     let heads = all.clone().map(|column| column.to_string());
     let mut table = vec![" ".repeat(widest(&labels)) + &cells(heads)];
     for row in all.clone() {
-        let marks = all.clone().map(|column| mark(clashes, row, column));
+        let marks = all.clone().map(|column| mark(input, row, column));
         table.push(labels[row].clone() + &cells(marks));
     }
     if widest(&table) + BESIDE.len() + widest(&texts) <= MOST_WIDE {
@@ -37,7 +39,7 @@ pub fn lines(form: &Form, clashes: &[Clashing]) -> Vec<String> {
 }
 
 /// Each template's number and name, all of the same width.
-fn labels(form: &Form) -> Vec<String> {
+pub fn labels(form: &Form) -> Vec<String> {
     let names = form.templates.iter().map(|template| short(&template.name));
     let names: Vec<String> = names.collect();
     let wide = widest(&names);
@@ -78,11 +80,14 @@ fn cells<T: ToString>(cells: impl Iterator<Item = T>) -> String {
         .collect()
 }
 
-fn mark(clashes: &[Clashing], row: usize, column: usize) -> &'static str {
+fn mark(input: &Input, row: usize, column: usize) -> &'static str {
     let (first, second) = (row.min(column), row.max(column));
-    match first == second {
-        true => ITSELF,
-        false if clashes.contains(&Clashing { first, second }) => CLASH,
-        false => APART,
+    if first == second {
+        return ITSELF;
+    }
+    match input.standing(Clashing { first, second }) {
+        Standing::Clash => CLASH,
+        Standing::NeverBoth => NEVER_BOTH,
+        Standing::Apart => APART,
     }
 }

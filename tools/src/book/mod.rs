@@ -4,13 +4,13 @@
 mod fault;
 pub mod form;
 pub mod input;
-mod matrix;
+pub mod matrix;
 pub mod opinion;
-mod parse;
+pub mod parse;
 mod places;
 pub mod question;
 mod text;
 pub mod verdict;
 
 #[cfg(test)]
-mod random;
+pub mod random;

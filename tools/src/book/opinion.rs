@@ -32,7 +32,12 @@ pub fn of(input: &Input, name: &str) -> (Outcome, Vec<String>) {
         0 => "agrees on each. Nothing here checks a solver's word for apart.".to_string(),
         some => format!("agrees on {}", all - some),
     };
-    let opinion = format!("second opinion: {name}, asked about each of the {all} pairs, {agrees}");
+    let asked = match input.hours {
+        Some(_) => "pairs without hours",
+        None => "pairs",
+    };
+    let opinion =
+        format!("second opinion: {name}, asked about each of the {all} {asked}, {agrees}");
     let mut lines = vec![String::new(), opinion];
     lines.extend(told);
     let worst = [Outcome::Disagree, Outcome::Undecided];

@@ -1,9 +1,10 @@
-//! Reads the text form of a book. A line starts with one of two words:
+//! Reads the text form of a book. A line starts with one of three words:
 //!
 //!     letters 0 1 2 A                              the letters, in the order of their ASCII numbers
 //!     template hold-up = A{shop 4}{zone 2}{shop}   a template of letters, and of fields in braces; a field's limit stands where it comes first
 //!     template x = A{shop 4} unused {zone 2}       after the word `unused` fields with their limits that stand nowhere in the template
 //!     template y (zone 2, shop 4) = A{shop}        limits may also be given before, for fields in another order
+//!     hours hold-up Mon 09:00-17:30                when a template is sent; `hours/parse.rs` reads the rest of the line
 //!
 //! Fields are numbered in the order of their limits. Spaces, comments and backslashes are as in the text form of a sheet, but `unused` is the
 //! word only where it stands whole, with a space before it and a space, a `{` or the end of the line after it. Else it is six letters, as in
@@ -12,6 +13,7 @@
 use super::form::{Form, Template};
 use super::places::{Places, TemplatePlaces};
 use crate::form::{Field, Symbol};
+use crate::hours::parse as hours;
 use crate::letters;
 use crate::line::{fault_at, Line};
 use crate::source::{Fault, Place};
@@ -23,6 +25,15 @@ pub const UNUSED: &str = "unused";
 pub struct Read {
     pub form: Form,
     pub places: Places,
+    /// If the text has any.
+    pub hours: Option<hours::Read>,
+}
+
+/// Lines after their first word, which are read once all letters, or all templates, are known.
+struct Later {
+    templates: Vec<Line>,
+    /// Each with the place of that word.
+    hours: Vec<(Place, Line)>,
 }
 
 pub fn parse(text: &str) -> Result<Read, Fault> {
@@ -36,36 +47,39 @@ pub fn parse(text: &str) -> Result<Read, Fault> {
             templates: Vec::new(),
             end: Place::end_of(text),
         },
+        hours: None,
     };
-    // They are read once all letters are known.
-    let mut templates = Vec::new();
+    let mut later = Later {
+        templates: Vec::new(),
+        hours: Vec::new(),
+    };
     for (number, text) in text.lines().enumerate() {
         let mut line = Line::new(text, number + 1);
         if line.peek().is_some() {
-            read.line(line, &mut templates)?;
+            read.line(line, &mut later)?;
         }
     }
     letters::needed(&read.form.letters, read.places.end)?;
-    for line in templates {
+    for line in later.templates {
         read.template(line)?;
     }
+    read.hours = hours::read(later.hours, &read.form.names())?;
     Ok(read)
 }
 
 impl Read {
-    fn line(&mut self, mut line: Line, templates: &mut Vec<Line>) -> Result<(), Fault> {
+    fn line(&mut self, mut line: Line, later: &mut Later) -> Result<(), Fault> {
         let start = line.place();
         match line.word().as_str() {
             "letters" => {
                 let places = &mut self.places.letters;
-                letters::read(start, line, &mut self.form.letters, places)
+                letters::read(start, line, &mut self.form.letters, places)?
             }
-            "template" => {
-                templates.push(line);
-                Ok(())
-            }
-            _ => fault_at(start, "a line starts with `letters` or `template`"),
+            "template" => later.templates.push(line),
+            "hours" => later.hours.push((start, line)),
+            _ => return fault_at(start, "a line starts with `letters`, `template` or `hours`"),
         }
+        Ok(())
     }
 
     fn template(&mut self, mut line: Line) -> Result<(), Fault> {

@@ -2,6 +2,7 @@
 
 use super::input::Input;
 use crate::form::{Field, Form};
+use crate::hours::{shared, text};
 use crate::input::Input as SheetInput;
 use lunthegyr::Clashing;
 
@@ -29,10 +30,24 @@ pub fn text(input: &Input, templates: [&str; 2]) -> Result<String, String> {
     let names = different(fields(input, Clashing { first, second }));
     let form = named(Form::of_accepted(sheet.bytes()), names.into_iter());
     let [left, right] = [first, second].map(|number| &input.form.templates[number].name);
-    let text = form.text();
-    Ok(format!(
-        "# {left} on the left, {right} on the right\n{text}"
-    ))
+    let sides = format!("# {left} on the left, {right} on the right\n");
+    Ok(sides + &hours(input, [first, second]) + &form.text())
+}
+
+/// What a sheet cannot say, as a comment: when the two are sent, if the book has hours.
+fn hours(input: &Input, templates: [usize; 2]) -> String {
+    match &input.hours {
+        None => String::new(),
+        Some(hours) => {
+            let [first, second] = templates.map(|number| hours.windows(number));
+            let words = "# a sheet has no hours; in the book";
+            let told = match &shared::windows(first, second)[..] {
+                [] => vec![format!("{words} the two are never sent in the same minute")],
+                shared => text::sent(&format!("{words} both are sent"), shared, usize::MAX),
+            };
+            told.join("\n") + "\n"
+        }
+    }
 }
 
 /// The number of a template that is given by its name or number.
@@ -41,15 +56,11 @@ fn number(input: &Input, word: &str) -> Result<usize, String> {
     let named = templates.iter().position(|template| template.name == word);
     let numbered = || word.parse().ok().filter(|&number| number < templates.len());
     named.or_else(numbered).ok_or_else(|| {
-        let names: Vec<&str> = templates
-            .iter()
-            .map(|template| template.name.as_str())
-            .collect();
         let last = templates.len() - 1;
         format!(
             "{}: no template is called {word} or has this number (0 to {last}: {})",
             input.name,
-            names.join(", ")
+            input.form.names().join(", ")
         )
     })
 }
@@ -117,6 +128,7 @@ mod tests {
             name: "random".to_string(),
             book,
             form,
+            hours: None,
         }
     }
 

@@ -1,6 +1,7 @@
-//! Random books for tests, the same in every run.
+//! Random books and hours for tests, the same in every run.
 
 use super::parse::UNUSED;
+use lunthegyr::{Hours, Window, WEEK_MINUTES, WINDOWS_MOST};
 
 /// Numbers that look random (xorshift).
 pub struct Random(u64);
@@ -77,15 +78,35 @@ impl Random {
         book.extend(&symbols);
     }
 
+    /// Windows of a template within the ranges, in order: some touch, some are long. With a week of few minutes many templates share some.
+    pub fn windows(&mut self) -> Vec<Window> {
+        let week = [12, usize::from(WEEK_MINUTES)][self.below(2)];
+        let mut minutes: Vec<u16> = (0..2 * self.below(WINDOWS_MOST + 1))
+            .map(|_| self.below(week + 1) as u16)
+            .collect();
+        minutes.sort_unstable();
+        let windows = minutes.chunks(2).map(|ends| Window {
+            start: ends[0],
+            end: ends[1],
+        });
+        windows.filter(|window| window.start < window.end).collect()
+    }
+
+    /// The bytes of hours for so many templates.
+    pub fn hours(&mut self, templates: usize) -> Vec<u8> {
+        let windows: Vec<Vec<Window>> = (0..templates).map(|_| self.windows()).collect();
+        Hours::bytes_of(&windows)
+    }
+
     /// Changes, cuts or lengthens bytes somewhere.
-    pub fn damage(&mut self, book: &mut Vec<u8>) {
-        let at = self.below(book.len());
+    pub fn damage(&mut self, bytes: &mut Vec<u8>) {
+        let at = self.below(bytes.len());
         match self.below(4) {
-            0 => book.truncate(at),
-            1 => book.push(self.below(256) as u8),
-            2 => book[at] = self.below(256) as u8,
-            // Near to what it was, so that it is often still a book.
-            _ => book[at] = book[at].wrapping_add(self.below(5) as u8).wrapping_sub(2),
+            0 => bytes.truncate(at),
+            1 => bytes.push(self.below(256) as u8),
+            2 => bytes[at] = self.below(256) as u8,
+            // Near to what it was, so that it is often still a book, or hours.
+            _ => bytes[at] = bytes[at].wrapping_add(self.below(5) as u8).wrapping_sub(2),
         }
     }
 }

@@ -2,7 +2,8 @@
 use mathlib.Core.Path.{subst}
 use lib.ListN.{length}
 use borrow.Author.Needs.{needs}
-use Rattle.calls.proofs.Comparing.{comparing-book, compare-refused}
+use Rattle.calls.specs.Calls.{comparing}
+use Rattle.calls.proofs.Comparing.{comparing-book, decides-refused}
 use Rattle.book_read.specs.Walk.{numberOf, Reads}
 use Rattle.book_list.proofs.compare.Statement.{statement}
 use Rattle.book_list.proofs.compare.Tie as tie
@@ -16,8 +17,8 @@ enum-known-refusal c = search needs
 enum-told : tie.Need-enum-told
 enum-told c = search needs
 
-hand-over-requires : tie.Need-hand-over-requires
-hand-over-requires c κs =
+list-all-requires : tie.Need-list-all-requires
+list-all-requires c κs =
     let at-read = c .before .before .before in
     subst (Reads (at-read .before .before .before .args .book .now)) (c .before .enum-told .given .1) (at-read .read .ensures)
 
@@ -27,13 +28,13 @@ returns c =
     let a = at-read .before .before .before .args in
     let b = a .book .now in
     let refusal = c .before .refusal .given in
-    compare-refused b (a .list .now) (numberOf (refusal .0 .0)) (comparing-book b (length (a .list .now)) (subst (Reads b) (refusal .1) (at-read .read .ensures)))
+    decides-refused (comparing b (length (a .list .now))) (a .list .now) (numberOf (refusal .0 .0)) (comparing-book b (length (a .list .now)) (subst (Reads b) (refusal .1) (at-read .read .ensures)))
 
 same-length : tie.Need-same-length
 same-length c = search needs
 
 returns-2 : tie.Need-returns-2
-returns-2 c = c .before .before .hand-over .ensures
+returns-2 c = search needs
 
 pub compare-spec : {M : Type 1} → statement M
 compare-spec =
@@ -42,7 +43,7 @@ compare-spec =
     read-requires
     enum-known-refusal
     enum-told
-    hand-over-requires
+    list-all-requires
     returns
     same-length
     returns-2)

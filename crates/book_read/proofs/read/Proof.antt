@@ -5,28 +5,32 @@ use lib.ListN.{drop}
 use borrow.Author.Needs.{needs}
 use borrow.Author.Tests.{not-true, not-false}
 use Rattle.parts.proofs.Known.{lent-bytes}
-use Rattle.book.specs.Book.{body, opens}
+use Rattle.book.specs.Book.{body, mark, opens}
+use Rattle.book.proofs.Opening.{opens-long}
 use Rattle.book.proofs.Reading.{accepted-admitted}
-use Rattle.book.proofs.Rests.{opens-long, read-shut, read-stops, read-over, read-done}
+use Rattle.book.proofs.Rests.{read-shut, read-stops, read-over, read-done}
 use Rattle.book_read.proofs.Walks.{came-at, came-stopped}
 use Rattle.book_read.proofs.read.Statement.{statement}
 use Rattle.book_read.proofs.read.Tie as tie
+
+slice-aggregate-opens : tie.Need-slice-aggregate-opens
+slice-aggregate-opens c = search needs
 
 opens-requires : tie.Need-opens-requires
 opens-requires c κs = search needs
 
 returns : tie.Need-returns
-returns c = read-shut (c .before .before .before .args .book .now) (sym (c .before .opens .ensures) ∙ not-true _ (c .if1 .taken))
+returns c = read-shut (c .before .before .before .before .args .book .now) (sym (c .before .opens .ensures) ∙ not-true _ (c .if1 .taken))
 
 -- the book has its mark and version
 abbrev start : tie.Else1 → tie.Start
-start c = c .before .before .before
+start c = c .before .before .before .before
 
-opened : (c : tie.Else1) → opens (start c .args .book .now) ≡ true
+opened : (c : tie.Else1) → opens mark (start c .args .book .now) ≡ true
 opened c = sym (c .before .opens .ensures) ∙ not-false _ (c .if1 .left)
 
 walked-requires : tie.Need-walked-requires
-walked-requires c κs = opens-long (start c .args .book .now) (opened c)
+walked-requires c κs = opens-long mark (start c .args .book .now) (opened c)
 
 enum-told : tie.Need-enum-told
 enum-told c = search needs
@@ -57,12 +61,13 @@ returns-4 c =
     let b = start else .args .book .now in
     let k = came-at b (body (drop 5 b)) (at-walked .walked .ensures) (at-e .e .given .1) in
     let r = read-done b (opened else) (at-e .e .given .0 .0) (k .0) (c .if2 .left) in
-    accepted-admitted b (lent-bytes b (else .before .before .shared-slice-known .given)) (r .1)
+    accepted-admitted b (lent-bytes b (else .before .before .before .shared-slice-known .given)) (r .1)
 
 pub read-spec : {M : Type 1} → statement M
 read-spec =
     tie.close
     (tie.spec
+    slice-aggregate-opens
     opens-requires
     returns
     walked-requires
