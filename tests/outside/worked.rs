@@ -1,12 +1,14 @@
 //! Hours files with what they leave of a book's list, worked out by hand from document 02 (No. 6) apart
 //! from any code: as bytes, as the minutes of windows, and for a shop that examples/ has.
 
+use crate::engine;
 use crate::hours::Shop;
 use crate::report::{require, Hex};
 use crate::schedule::{self, Interval, MOST_BYTES};
 use crate::schedules;
 use crate::test::Test;
 use std::fs;
+use std::time::{Duration, Instant};
 
 pub fn run(test: &mut Test) {
     test.part("hours worked out by hand, as bytes", bytes);
@@ -381,6 +383,7 @@ const MINUTES: [(&[u8], Windows, usize, Known); 106] = [
 
 /// Of the shop's twelve templates 0 1, 0 5, 2 3, 8 9 and 10 11 clash.
 const SHOP: &str = "examples/shop.tpb";
+const SLOWEST: &str = "bench/worst/book_2.tpb";
 const ALWAYS: &[Interval] = &[[0, 10_080]];
 
 /// Hours of the shop, with what they leave.
@@ -507,6 +510,22 @@ fn sixteen(test: &mut Test) {
         }
     });
     compare(test, &shop, &ends, 2, Ok(vec![0, 15]));
+    unsearched();
+}
+
+/// The slowest book that is known, whose list takes half a second, with a minute of its own for each template: no pair is searched.
+fn unsearched() {
+    let book = fs::read(SLOWEST).expect("the slowest book");
+    let minutes: Vec<Vec<Interval>> = (0..16).map(|i| vec![[i, i + 1]]).collect();
+    let hours = schedules::encode(&minutes);
+    let start = Instant::now();
+    let status = engine::book_hours(&book, &hours, 0).status;
+    let taken = start.elapsed();
+    require(
+        status == 0 && taken < Duration::from_millis(50),
+        "no pair shares a minute, so the list is empty, and there is nothing to search",
+        &[("status", &status), ("taken", &format!("{taken:?}"))],
+    );
 }
 
 /// The list of the pairs below 16 that pass a test.

@@ -203,7 +203,7 @@ impl Refusal {
                 "a count, letter, limit, symbol or width of the book breaks its range, or bytes are missing or left over"
             }
             Refusal::BufferBelowList => {
-                "the buffer is shorter than 2 bytes for each pair of templates that clash; 240 bytes are always enough"
+                "the buffer is shorter than 2 bytes for each pair of templates that is listed; 240 bytes are always enough"
             }
             Refusal::HoursFault => {
                 "the hours do not start with the three bytes TPH and the version 1 in two bytes, a template has more than 4 windows, or bytes are missing or left over for the book's templates"

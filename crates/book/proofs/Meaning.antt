@@ -7,7 +7,7 @@ use mathlib.Core.Logic.{_↔_}
 use Prim.Native.Nat.{ℕ, _<_}
 use native.Mathlib.Omega.{arith}
 use lib.ListN.{length, getD, take, drop, take-append-drop}
-use Rattle.model.specs.Lists.{each, All}
+use Rattle.model.specs.Lists.{All}
 use Rattle.model.specs.Sheet.{Symbol, letter, field}
 use Rattle.model.specs.Range.{SymbolIn}
 use Rattle.model.specs.Word.{Substitution, Texts, symbolWord, spell, SameWord, Solves}

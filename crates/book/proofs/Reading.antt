@@ -1,22 +1,22 @@
 -- Reading a book is right. `read-encode`: the bytes of a book within the ranges are read as that book. `accepted-encode`: accepted bytes are those of
 -- their book, which is within the ranges. `read-prefix`: the first 288 bytes decide. Assumes nothing.
 use mathlib.Core.Path.{_≡_, refl, sym, ap, _∙_}
-use mathlib.Core.Bool.{true, _&&_}
+use mathlib.Core.Bool.{true}
 use mathlib.Core.List.{List, [], _∷_, _++_, map, append-assoc, append-nil}
-use Prim.Native.Nat.{ℕ, _+_, _-_, _<_, _≤_}
+use Prim.Native.Nat.{ℕ, _+_, _-_, _≤_}
 use native.Mathlib.Omega.{arith}
-use lib.Dec.{leb, eqb}
-use lib.ListN.{length, take, drop, length-map, length-append, length-take, length-drop, take-append-drop, List·getD-append}
-use lib.Seq.{take-all, drop-append-le, drop-cons}
-use borrow.Author.Tests.{le-leb, leb-true, leb-false, eqb-true}
+use lib.Dec.{leb}
+use lib.ListN.{length, take, drop, length-map, length-drop}
+use lib.Seq.{drop-append-le}
+use borrow.Author.Tests.{le-leb}
 use Rattle.model.specs.Lists.{between, startsWith, each, All, Bytes}
-use Rattle.model.specs.Sheet.{width, sixteen, symbolOf, symbolByte, Step, got, fault, letterByte, limitByte, templateByte, row, times, byte, bytesOf}
+use Rattle.model.specs.Sheet.{width, symbolOf, symbolByte, Step, got, fault, letterByte, limitByte, templateByte, row, times, bytesOf}
 use Rattle.model.specs.Range.{TemplateIn}
-use Rattle.model.proofs.Lists.{by-test, and-split}
-use Rattle.model.proofs.Steps.{no-fault, same-got, went, held, longer, Within, within-got, within-more, within-must, within-then, within-times}
+use Rattle.model.proofs.Lists.{by-test}
+use Rattle.model.proofs.Steps.{no-fault, same-got, went, held, longer, Within, within-got, within-more, within-must, within-then, within-times, prefix-decides}
 use Rattle.model.proofs.Rows.{row-reads, row-exact, within-row}
 use Rattle.model.proofs.Faithful.{rest-bytes, Exact, Faithful, times-reads, times-exact}
-use Rattle.model.proofs.Opening.{between-in, between-out, starts-with, starts-longer}
+use Rattle.model.proofs.Opening.{between-in, between-out}
 use Rattle.model.proofs.Sections.{letters-pass, letters-rise, letters-in-range, limits-pass, limits-in-range, symbols-again, symbols-back, template-reads, template-in}
 use Rattle.book.proofs.Opening.{five-bytes, opens-longer}
 use Rattle.book.specs.Book.{Template, Book, count, someSymbols, aTemplate, someTemplates, body, Reading, accepted, refused, mark, opens, ended, readBook, encodeTemplate, encodeBook, OwnIn, BookIn, bookIn, bookOf, Admitted}
@@ -243,12 +243,7 @@ read-longer xs ys h =
     )
 
 pub read-prefix : (b : List ℕ) → readBook b ≡ readBook (take 288 b)
-read-prefix b =
-    by-test (leb (length b) 288)
-    (λ e. let h = leb-true (length b) 288 e in rw (take-all 288 b h))
-    (λ e.
-    let h = leb-false (length b) 288 e in
-    ap readBook (sym (take-append-drop 288 b)) ∙ read-longer (take 288 b) (drop 288 b) (rw (length-take 288 b) (omega arith)))
+read-prefix = prefix-decides readBook 288 read-longer
 
 -- and no accepted book is longer than 287 bytes
 pub book-short : (b : List ℕ) {k : Book} → readBook b ≡ accepted k → length b ≤ 287

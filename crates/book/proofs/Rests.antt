@@ -4,13 +4,11 @@ use mathlib.Core.Bool.{true, false}
 use mathlib.Core.List.{List, [], _∷_, map}
 use Prim.Native.Nat.{ℕ, _<_, _≤_}
 use native.Mathlib.Omega.{arith}
-use lib.Dec.{leb, eqb}
+use lib.Dec.{leb}
 use lib.ListN.{length, getD, take, drop, drop-of-length-le}
 use lib.Seq.{drop-cons}
-use borrow.Author.Tests.{leb-true}
-use Rattle.model.specs.Lists.{between, startsWith}
-use Rattle.model.specs.Sheet.{Step, got, fault, rest, Role, letterByte, limitByte, templateByte, row, times, symbolOf, width, sixteen, byte}
-use Rattle.model.proofs.Lists.{and-split}
+use Rattle.model.specs.Lists.{between}
+use Rattle.model.specs.Sheet.{Step, got, fault, rest, Role, letterByte, limitByte, templateByte, row, times, symbolOf, width}
 use Rattle.model.proofs.Rests.{found, rest-stops, rest-wrapped, row-value}
 use Rattle.book.specs.Book.{Book, count, someSymbols, aTemplate, someTemplates, body, accepted, refused, mark, opens, ended, readBook}
 use Rattle.book.proofs.Reading.{count-exact}

@@ -11,7 +11,6 @@ use Rattle.model.specs.Solvable.{solvable}
 use Rattle.model.proofs.Lists.{by-test}
 use Rattle.model.proofs.Known.{accepted-as}
 use Rattle.model.proofs.Solvable.{solvable-in, none-unsolvable}
-use Rattle.model.proofs.Seams.{nothing}
 use Rattle.unification.specs.declared.Found.{Found}
 use Rattle.solution.specs.Whole.{Settles}
 use Rattle.book.specs.Book.{Book, BookIn}

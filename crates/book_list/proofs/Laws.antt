@@ -1,10 +1,9 @@
 -- The list as it is written, pair by pair and row by row; and which pairs a table wants. Assumes nothing.
-use mathlib.Core.Path.{_≡_, refl, sym, ap, subst, _∙_}
-use mathlib.Core.Bool.{Bool, true, false, not, _&&_}
+use mathlib.Core.Path.{_≡_, sym, ap, subst, _∙_}
+use mathlib.Core.Bool.{Bool, false, and-false}
 use mathlib.Core.List.{List, [], _∷_}
 use Prim.Native.Nat.{ℕ, suc, _+_, _-_, _*_, _<_, _≤_}
 use native.Mathlib.Omega.{arith}
-use lib.Dec.{eqb}
 use lib.ListN.{length, getD, replicate, getD-replicate}
 use borrow.Author.Tests.{eq-eqb, ne-eqb}
 use Rattle.model.specs.Lists.{each, from, upTo, when, Puts}
@@ -19,10 +18,6 @@ use Rattle.book_list.specs.Wanted.{wants, listed}
 -- what is written of two templates
 pub pair-none : (s : List ℕ) (at i j : ℕ) (t : Bool) → t ≡ false → Puts s at (when t (i ∷ j ∷ [])) s at
 pair-none s at i j t e = let w = nothing s at in subst (λ b. Puts s at (when b (i ∷ j ∷ [])) s at) (sym e) (w .past, w .holds)
-
-and-false : (a : Bool) → (a && false) ≡ false
-and-false true = refl
-and-false false = refl
 
 module _ (table : List ℕ) (k : Book) (i j : ℕ) where
   pub not-wanted : getD table (i * 16 + j) 0 ≡ 0 → listed table k i j ≡ false

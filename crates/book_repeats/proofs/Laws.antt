@@ -9,7 +9,7 @@ use Rattle.model.specs.Lists.{same}
 use Rattle.model.specs.Sheet.{symbolOf, symbolByte}
 use Rattle.model.proofs.Lists.{and-split, same-equal}
 use Rattle.model.proofs.Sections.{symbols-again}
-use Rattle.book.specs.Book.{Template, Book, template, OwnIn, BookIn}
+use Rattle.book.specs.Book.{Template, Book, template, BookIn}
 use Rattle.book.proofs.Question.{own-in}
 use Rattle.book_repeats.specs.Repeats.{sameTemplate}
 

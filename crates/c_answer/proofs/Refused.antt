@@ -7,12 +7,13 @@ use mathlib.Core.Logic.{_↔_}
 use Prim.Native.Nat.{ℕ, zero, suc, _≤_}
 use native.Mathlib.Omega.{arith}
 use lib.IntN.{ℤ, pos, negℤ}
-use Rattle.calls.specs.Calls.{Answer, refused, finished, sized, unnumbered}
+use Rattle.calls.specs.Calls.{Answer, refused, finished, sized, unnumbered, decision}
 use Rattle.calls.specs.Rules.{Rule, Kept, First}
 use Rattle.calls.proofs.Operations.{not-finished}
+use Rattle.calls.proofs.Searching.{decision-refused}
 use Rattle.calls.proofs.Demands.{InOrder, Unchanged}
-use Rattle.c_answer.specs.Returned.{returned, lentAfter, returnedNumber, Handed, arrayAfter, Explained}
-use Rattle.c_answer.proofs.Told.{negative}
+use Rattle.c_answer.specs.Returned.{returned, lentAfter, returnedNumber, Handed, Decided, arrayAfter, Explained}
+use Rattle.c_answer.proofs.Told.{negative, returns-decision}
 
 pub record Tells (rules : List Rule) (r : ℤ) : Type 0 where
   -- "the call returns the first refusal number that applies, in the order given there"
@@ -103,3 +104,10 @@ module _ (r : ℤ) (before after : List ℕ) where
   pub explained-first : {rules : List Rule} (a : Answer) → InOrder rules a → ((n : ℕ) → a ≡ refused n → 1 ≤ n) → Explained a before r after
       → Tells rules r × Leaves r before after
   explained-first a o from-one call = rw (call .0, call .1) (tells as-number a o from-one, leaves as-number a (array-kept a before))
+
+  -- one that returns the first of its values, and hands the others over in a lent buffer
+  pub decided-first : {rules : List Rule} (a : Answer) → InOrder rules (decision a) × Unchanged (decision a) before after → ((n : ℕ) → a ≡ refused n → 1 ≤ n)
+      → Decided a before r after → Tells rules r × Leaves r before after
+  decided-first a d from-one call =
+      rw (returns-decision a before after r call)
+      (tells as-number (decision a) (d .0) (λ n e. from-one n (decision-refused a (sym e))), leaves as-number (decision a) (d .1))

@@ -1,13 +1,13 @@
 -- What a number that is returned tells of an answer, whatever the call: 0 where it has to be a finished answer, a length where values are written.
 -- Refusals count from 1, so that minus one of them is never 0 or more. Assumes nothing.
-use mathlib.Core.Path.{_≡_, refl, ap, _∙_}
-use mathlib.Core.List.{[], _∷_}
+use mathlib.Core.Path.{_≡_, refl, sym, ap, _∙_}
+use mathlib.Core.List.{List, [], _∷_}
 use Prim.Native.Nat.{ℕ, zero, suc, _≤_}
 use native.Mathlib.Omega.{arith}
-use lib.IntN.{pos, negℤ}
-use Rattle.calls.specs.Calls.{Answer, refused, finished, sized, unnumbered, decision}
+use lib.IntN.{ℤ, pos, negℤ}
+use Rattle.calls.specs.Calls.{Answer, refused, finished, sized, unnumbered, decision, Decides}
 use Rattle.calls.proofs.Operations.{Finished, Sized}
-use Rattle.c_answer.specs.Returned.{returned, returnedNumber}
+use Rattle.c_answer.specs.Returned.{returned, returnedNumber, Decided}
 
 pub zero-finished : (a : Answer) → ((n : ℕ) → a ≡ refused n → 1 ≤ n) → returned a ≡ pos 0 → Finished a
 zero-finished (finished vs) h e = record { values = vs; is = refl }
@@ -51,3 +51,11 @@ pub counted-decision : (a : Answer) (n : ℕ) → ((k : ℕ) → a ≡ refused k
 counted-decision (refused k) n from-one some e = negative k (from-one k refl) e
 counted-decision (finished []) n from-one some e = absurd (some refl)
 counted-decision (finished (v ∷ others)) n from-one some e = ap (λ m. finished (m ∷ [])) (pos-equal e)
+
+-- a call that returns a decision and hands the rest over does what `Decides` says
+module _ (a : Answer) (before after : List ℕ) (r : ℤ) (call : Decided a before r after) where
+  pub decided-decides : Decides a before (decision a) after
+  decided-decides = (refl, call .1)
+
+  pub returns-decision : r ≡ returnedNumber (decision a)
+  returns-decision = call .0 ∙ sym (same-decision a)

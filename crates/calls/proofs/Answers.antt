@@ -15,7 +15,7 @@ use Rattle.model.specs.Cells.{cells}
 use Rattle.formula.specs.Clause.{terms, leftOut, literals, least, spread, sums, placeIds, locationIds, equationIds, constraintIds, listed, ids}
 use Rattle.formula.specs.Numbering.{kVariables, sVariables, tVariables, variables, number, clause}
 use Rattle.formula.specs.Dimacs.{digits, decimal, problemLine, clauseLine, line, file, fileSize}
-use Rattle.calls.specs.Calls.{Answer, refused, finished, checking, spellingOf, spelling, written, searchingOf, searching, counting, writingOf, writing, filingOf, filing, listing, comparing, scheduling}
+use Rattle.calls.specs.Calls.{Answer, refused, finished, checking, spellingOf, spelling, written, searchingOf, searching, counting, writingOf, writing, filingOf, filing, listing, comparing, comparingHours}
 use Rattle.model.proofs.Computed.{sheet, P}
 use Rattle.book.specs.Book.{mark, count, someSymbols, aTemplate, someTemplates, body, opens, readBook}
 use Rattle.book.specs.Pairs.{pairs, clashing, listBytes}
@@ -294,6 +294,7 @@ schedules =
     ∷ (scheduled (book []) [] 0 (refused 41))
     ∷ (scheduled three-empty [] 0 (refused 43))
     ∷ (scheduled three-empty (hours (0 ∷ 0 ∷ [])) 0 (refused 43))
+    ∷ (scheduled three-empty (hours (0 ∷ 0 ∷ 0 ∷ 0 ∷ [])) 0 (refused 43))
     ∷ (scheduled three-empty (hours (1 ∷ 0 ∷ 9 ∷ 0 ∷ 9 ∷ 0 ∷ 0 ∷ [])) 0 (refused 44))
     ∷ (scheduled three-empty (hours (2 ∷ 0 ∷ 0 ∷ 0 ∷ 9 ∷ 0 ∷ 8 ∷ 0 ∷ 20 ∷ 0 ∷ 0 ∷ [])) 0 (refused 45))
     -- all at once: 43 first, then of one window 44
@@ -301,6 +302,6 @@ schedules =
     ∷ (scheduled three-empty (hours (2 ∷ 0 ∷ 0 ∷ 0 ∷ 9 ∷ 0 ∷ 8 ∷ 0 ∷ 8 ∷ 0 ∷ 0 ∷ [])) 0 (refused 44))
     ∷ []
 
-pub schedule-answers : map (λ (c : Scheduled). scheduling (c .of-book) (c .of-hours) (c .room)) schedules ≡ map (λ (c : Scheduled). c .answer) schedules
-unfolding startsWith row times width count someSymbols aTemplate someTemplates body opens readBook minute anInterval someIntervals tested allTested readHours sent share sharing each from all any same spell weight sameLetter sameWord equationHolds constraintHolds keeps solves allTexts substitutions solvable keep question.asked pairs clashing listBytes listing scheduling
+pub schedule-answers : map (λ (c : Scheduled). comparingHours (c .of-book) (c .of-hours) (c .room)) schedules ≡ map (λ (c : Scheduled). c .answer) schedules
+unfolding startsWith row times width count someSymbols aTemplate someTemplates body opens readBook minute anInterval someIntervals tested allTested readHours sent share sharing each from all any same spell weight sameLetter sameWord equationHolds constraintHolds keeps solves allTexts substitutions solvable keep question.asked pairs clashing listBytes listing comparingHours
 schedule-answers = refl

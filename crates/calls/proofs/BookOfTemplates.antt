@@ -26,7 +26,7 @@ use Rattle.book.proofs.Question.{question-in-range, question-read}
 use Rattle.book.proofs.Meaning.{clash-means}
 use Rattle.book.proofs.Listed.{kept-pass, pass-kept, kept-in-order, kept-once, list-size, kept-few, clashing-kept}
 use Rattle.calls.proofs.Searching as searches
-use Rattle.calls.proofs.Comparing.{listing-short, listing-fits, comparing-accepted, Listed, finished-listed}
+use Rattle.calls.proofs.Comparing.{listing-short, listing-fits, comparing-accepted, Listed, finished-listed, first-same}
 use Rattle.calls.proofs.Operations.{not-finished}
 use Rattle.calls.proofs.Ordered.{kept-goes, first-fails, first-or-none}
 use Rattle.calls.proofs.Demands.{InOrder, Unchanged, in-order}
@@ -118,9 +118,6 @@ lists-kept t C n means before after number l =
       once = kept-once t n;
       in-order = kept-in-order t n;
     }
-  where
-    first-same : {m n : ℕ} → _≡_ {A = List ℕ} (m ∷ []) (n ∷ []) → m ≡ n
-    first-same e = cc
 
 -- "The answer lists each clashing (i, j)"
 abbrev pub ListsTheClashes : Book → List ℕ → List ℕ → ℕ → Type 0

@@ -16,18 +16,22 @@ use Rattle.book.specs.Book as book
 use Rattle.book.specs.Book.{Book, count, someSymbols, aTemplate, someTemplates, body, opens, ended, readBook, bookOf}
 use Rattle.book.specs.Pairs.{clashing}
 use Rattle.calls.specs.Calls.{refused, ofBook, listValues, listing, comparing}
-use Rattle.calls.specs.Rules.{Rule, _asks_, symbolsAt, countRules, symbolsRules, templateRules, templateBytes, templatesAt, bookEnd, bodyRules, asBook, bookRules, listRule, comparingRules}
+use Rattle.calls.specs.Rules.{Rule, _asks_, symbolsAt, countRules, symbolsRules, templateRules, templateBytes, templatesAt, bookEnd, bodyRules, asBook, markRules, bookRules, listRule, comparingRules}
 use Rattle.model.proofs.Lists.{by-test}
 use Rattle.calls.proofs.Ordered.{inOrder, order-append, order-through, kept-goes, first-fails, Ordered, ordered-after, Follows, follows-from, follows-wrapped, follows-got, follows-must}
 use Rattle.calls.proofs.FirstRefusals.{row-then, several-follow}
 
 -- a mark and a version are three tests with one number
-pub three-tests : {R : Type 0} (p q r : Bool) (n : ℕ) (go : R) (fail : ℕ → R) → pick (p && (q && r)) go (fail n) ≡ inOrder fail ((n asks p) ∷ (n asks q) ∷ (n asks r) ∷ []) go
+three-tests : {R : Type 0} (p q r : Bool) (n : ℕ) (go : R) (fail : ℕ → R) → pick (p && (q && r)) go (fail n) ≡ inOrder fail ((n asks p) ∷ (n asks q) ∷ (n asks r) ∷ []) go
 unfolding inOrder
 three-tests true true true n go fail = refl
 three-tests true true false n go fail = refl
 three-tests true false r n go fail = refl
 three-tests false q r n go fail = refl
+
+pub mark-follows : {R : Type 0} (mark b : List ℕ) (n : ℕ) (go : R) (fail : ℕ → R) → pick (opens mark b) go (fail n) ≡ inOrder fail (markRules n mark b) go
+unfolding opens
+mark-follows mark b n go fail = three-tests (leb 5 (length b)) (startsWith mark b) (eqb (sixteen (byte b 3) (byte b 4)) 1) n go fail
 
 module _ (b : List ℕ) where
   count-follows : (low high k : ℕ) → count low high (drop k b) ≡ inOrder fault (countRules b low high k) (got (byte b k) (drop (k + 1) b))
@@ -82,14 +86,14 @@ module _ (b : List ℕ) where
 
   -- the book that is read, where none is broken
   pub book-follows : (k : Book) × (readBook b ≡ inOrder book.refused (bookRules b) (book.accepted k))
-  unfolding readBook opens bookRules
+  unfolding readBook bookRules
   book-follows =
       let walked = body-follows in
       let k : Book = walked .value in
       let last = (41 asks leb (length b) (bookEnd b)) ∷ [] in
-      let first = (40 asks leb 5 (length b)) ∷ (40 asks startsWith book.mark b) ∷ (40 asks eqb (sixteen (byte b 3) (byte b 4)) 1) ∷ [] in (
+      let first : List Rule = markRules 40 book.mark b in (
         k,
-        three-tests (leb 5 (length b)) (startsWith book.mark b) (eqb (sixteen (byte b 3) (byte b 4)) 1) 40 (ended (body (drop 5 b))) book.refused
+        mark-follows book.mark b 40 (ended (body (drop 5 b))) book.refused
             ∙ ap (inOrder book.refused first)
             (ap ended (walked .is)
             ∙ order-through ended fault (λ n. book.refused 41) (λ n. refl) (bodyRules b) (got k (drop (bookEnd b) b))

@@ -8,17 +8,16 @@ use lib.Dec.{leb}
 use lib.ListN.{length, take, drop}
 use borrow.Author.Tests.{le-leb, lt-leb, leb-true}
 use Rattle.model.specs.Lists.{pick, Bytes}
-use Rattle.model.specs.Sheet.{Step, got, fault}
+use Rattle.model.specs.Sheet.{Step, got, fault, times}
 use Rattle.book.specs.Book as book
-use Rattle.book.specs.Book.{Book, body, opens, ended, readBook, bookIn, bookOf, Admitted}
+use Rattle.book.specs.Book.{Book, body, opens, ended, readBook, bookIn, bookOf}
 use Rattle.book.specs.Pairs.{Pair, kept, clash, clashing, listBytes}
 use Rattle.schedule.specs.Schedule as schedule
 use Rattle.schedule.specs.Schedule.{Interval, Schedule, someIntervals, inWeek, tested, allTested, readHours, scheduleIn, scheduleOf}
 use Rattle.schedule.specs.Shared.{share, sharing}
-use Rattle.calls.specs.Calls.{Answer, refused, finished, require, written, decision, following, Decides, ofBook, listValues, listing, comparing, ofHours, scheduling}
-use Rattle.model.specs.Sheet.{times}
+use Rattle.calls.specs.Calls.{Answer, refused, finished, written, decision, following, Decides, ofBook, listValues, listing, comparing, ofHours, comparingHours}
 use Rattle.model.proofs.Lists.{by-test}
-use Rattle.book.proofs.Reading.{read-prefix, accepted-encode, accepted-admitted}
+use Rattle.book.proofs.Reading.{read-prefix, accepted-encode}
 use Rattle.book.proofs.Listed.{kept-few, kept-both, clashing-kept}
 use Rattle.schedule.proofs.Reading as hours
 use Rattle.calls.proofs.Operations.{not-finished}
@@ -57,18 +56,18 @@ module _ (b : List ℕ) (room : ℕ) where
   comparing-accepted e = rw e
 
 module _ (b h : List ℕ) (room : ℕ) where
-  pub scheduling-book : {n : ℕ} → readBook b ≡ book.refused n → scheduling b h room ≡ refused n
-  unfolding scheduling
-  scheduling-book e = rw e
+  pub comparing-hours-book : {n : ℕ} → readBook b ≡ book.refused n → comparingHours b h room ≡ refused n
+  unfolding comparingHours
+  comparing-hours-book e = rw e
 
   module _ {k : Book} (e : readBook b ≡ book.accepted k) where
-    pub scheduling-hours : {n : ℕ} → readHours (length (k .templates)) h ≡ schedule.refused n → scheduling b h room ≡ refused n
-    unfolding scheduling
-    scheduling-hours f = rw (e, f)
+    pub comparing-hours-hours : {n : ℕ} → readHours (length (k .templates)) h ≡ schedule.refused n → comparingHours b h room ≡ refused n
+    unfolding comparingHours
+    comparing-hours-hours f = rw (e, f)
 
-    pub scheduling-accepted : {s : Schedule} → readHours (length (k .templates)) h ≡ schedule.accepted s → scheduling b h room ≡ listing (sharing k s) room
-    unfolding scheduling
-    scheduling-accepted f = rw (e, f)
+    pub comparing-hours-accepted : {s : Schedule} → readHours (length (k .templates)) h ≡ schedule.accepted s → comparingHours b h room ≡ listing (sharing k s) room
+    unfolding comparingHours
+    comparing-hours-accepted f = rw (e, f)
 
 -- 0 is the number of no refusal: a book's are 40 and 41, an hours file's 43 to 45.
 book-numbers : (b : List ℕ) (n : ℕ) → readBook b ≡ book.refused n → (40 ≤ n) × (n ≤ 41)
@@ -126,10 +125,10 @@ pub comparing-refused : (b : List ℕ) (room n : ℕ) → comparing b room ≡ r
 unfolding comparing
 comparing-refused b room = not-zero (comparing b room) (by-book NotZero b _ (λ k e. listing-not-zero (clashing k) room) (λ n l. l))
 
-pub scheduling-refused : (b h : List ℕ) (room n : ℕ) → scheduling b h room ≡ refused n → 1 ≤ n
-unfolding scheduling
-scheduling-refused b h room =
-    not-zero (scheduling b h room)
+pub comparing-hours-refused : (b h : List ℕ) (room n : ℕ) → comparingHours b h room ≡ refused n → 1 ≤ n
+unfolding comparingHours
+comparing-hours-refused b h room =
+    not-zero (comparingHours b h room)
     (by-book NotZero b _ (λ k e. by-hours NotZero (length (k .templates)) h _ (λ s f. listing-not-zero (sharing k s) room) (λ n l. l)) (λ n l. l))
 
 -- and an answer that is finished has a number
@@ -137,9 +136,9 @@ pub comparing-counts : (b : List ℕ) (room : ℕ) → comparing b room ≡ fini
 unfolding comparing
 comparing-counts b room = by-book (λ a. a ≡ finished [] → ⊥) b _ (λ k e. listing-counts (clashing k) room) (λ n l q. not-finished q)
 
-pub scheduling-counts : (b h : List ℕ) (room : ℕ) → scheduling b h room ≡ finished [] → ⊥
-unfolding scheduling
-scheduling-counts b h room =
+pub comparing-hours-counts : (b h : List ℕ) (room : ℕ) → comparingHours b h room ≡ finished [] → ⊥
+unfolding comparingHours
+comparing-hours-counts b h room =
     by-book (λ a. a ≡ finished [] → ⊥) b _
     (λ k e. by-hours (λ a. a ≡ finished [] → ⊥) (length (k .templates)) h _ (λ s f. listing-counts (sharing k s) room) (λ n l q. not-finished q))
     (λ n l q. not-finished q)
@@ -148,6 +147,16 @@ scheduling-counts b h room =
 pub comparing-prefix : (b : List ℕ) (room : ℕ) → comparing b room ≡ comparing (take 288 b) room
 unfolding comparing
 comparing-prefix b room = ap (λ r. ofBook r (λ k. listing (clashing k) room)) (read-prefix b)
+
+pub comparing-hours-prefix : (b h : List ℕ) (room : ℕ) → Bytes b → comparingHours b h room ≡ comparingHours (take 288 b) (take 278 h) room
+unfolding comparingHours
+comparing-hours-prefix b h room y =
+    of-hours (readBook b) refl ∙ ap (λ r. ofBook r (λ k. ofHours (readHours (length (k .templates)) (take 278 h)) (λ s. listing (sharing k s) room))) (read-prefix b)
+  where
+    of-hours : (r : book.Reading) → readBook b ≡ r
+        → ofBook r (λ k. ofHours (readHours (length (k .templates)) h) (λ s. listing (sharing k s) room)) ≡ ofBook r (λ k. ofHours (readHours (length (k .templates)) (take 278 h)) (λ s. listing (sharing k s) room))
+    of-hours (book.accepted k) e = ap (λ r. ofHours r (λ s. listing (sharing k s) room)) (hours.read-prefix (length (k .templates)) (accepted-encode b y e .1 .of-templates .1) h)
+    of-hours (book.refused n) e = refl
 
 -- What a call does: a refusal leaves the buffer; else the list is at its front.
 pub decides-refused : (a : Answer) (before : List ℕ) (n : ℕ) → a ≡ refused n → Decides a before (refused n) before
@@ -195,11 +204,11 @@ module _ (before after values : List ℕ) where
       (readBook b ≡ book.accepted k) × (readHours (length (k .templates)) h ≡ schedule.accepted (scheduleIn (readHours (length (k .templates)) h)))
       × Listed (sharing k (scheduleIn (readHours (length (k .templates)) h))) before after values
 
-  pub finished-scheduled : (b h : List ℕ) → Decides (scheduling b h (length before)) before (finished values) after
+  pub finished-with-hours : (b h : List ℕ) → Decides (comparingHours b h (length before)) before (finished values) after
       → (readBook b ≡ book.accepted (bookOf b)) × (readHours (length (bookOf b .templates)) h ≡ schedule.accepted (scheduleOf (length (bookOf b .templates)) h))
       × Listed (sharing (bookOf b) (scheduleOf (length (bookOf b .templates)) h)) before after values
-  unfolding scheduling bookOf scheduleOf
-  finished-scheduled b h call =
+  unfolding comparingHours bookOf scheduleOf
+  finished-with-hours b h call =
       by-book (λ a. Done a → Told b h (bookIn (readBook b))) b _
       (λ k e d.
       let is : bookIn (readBook b) ≡ k = ap bookIn e in
@@ -216,14 +225,14 @@ pub sharing-kept : (k : Book) (s : Schedule) → sharing k s ≡ kept (λ i j. c
 unfolding sharing clashing
 sharing-kept k s = kept-both (clash k) (share s) (length (k .templates))
 
+pub first-same : {m n : ℕ} → _≡_ {A = List ℕ} (m ∷ []) (n ∷ []) → m ≡ n
+first-same e = cc
+
 -- There are no more than 120 of either.
 few-listed : (t : ℕ → ℕ → Bool) (ps : List Pair) (n : ℕ) {before after values : List ℕ} → n ≤ 16 → ps ≡ kept t n → Listed ps before after values → (m : ℕ) → values ≡ m ∷ [] → m ≤ 120
 few-listed t ps n small are l m e =
     let c : m ≡ length ps = first-same (sym e ∙ l .number) in
     omega (arith, kept-few t n small, ap length are)
-  where
-    first-same : {m n : ℕ} → _≡_ {A = List ℕ} (m ∷ []) (n ∷ []) → m ≡ n
-    first-same e = cc
 
 module _ (b before after values : List ℕ) (y : Bytes b) (n : ℕ) (e : values ≡ n ∷ []) where
   pub few : Decides (comparing b (length before)) before (finished values) after → n ≤ 120
@@ -231,9 +240,9 @@ module _ (b before after values : List ℕ) (y : Bytes b) (n : ℕ) (e : values 
       let c = finished-listed before after values b call in
       few-listed (clash (bookOf b)) (clashing (bookOf b)) (length (bookOf b .templates)) (accepted-encode b y (c .0) .1 .of-templates .1) (clashing-kept (bookOf b)) (c .1) n e
 
-  pub few-scheduled : (h : List ℕ) → Decides (scheduling b h (length before)) before (finished values) after → n ≤ 120
-  few-scheduled h call =
-      let c = finished-scheduled before after values b h call in
+  pub few-with-hours : (h : List ℕ) → Decides (comparingHours b h (length before)) before (finished values) after → n ≤ 120
+  few-with-hours h call =
+      let c = finished-with-hours before after values b h call in
       let k = bookOf b in
       few-listed (λ i j. clash k i j && share (scheduleOf (length (k .templates)) h) i j) (sharing k (scheduleOf (length (k .templates)) h)) (length (k .templates))
       (accepted-encode b y (c .0) .1 .of-templates .1) (sharing-kept k (scheduleOf (length (k .templates)) h)) (c .2) n e

@@ -212,5 +212,5 @@ abbrev pub ofHours : schedule.Reading → (Schedule → Answer) → Answer
 ofHours (schedule.accepted s) go = go s
 ofHours (schedule.refused n) go = refused n
 
-unfoldable pub scheduling : List ℕ → List ℕ → ℕ → Answer
-scheduling b h room = ofBook (readBook b) (λ k. ofHours (readHours (length (k .templates)) h) (λ s. listing (sharing k s) room))
+unfoldable pub comparingHours : List ℕ → List ℕ → ℕ → Answer
+comparingHours b h room = ofBook (readBook b) (λ k. ofHours (readHours (length (k .templates)) h) (λ s. listing (sharing k s) room))

@@ -210,12 +210,12 @@ bodyRules b =
 abbrev pub asBook : Rule → Rule
 asBook r = 41 asks r .kept
 
+-- a mark and "version 1 in 16 bits", with the number of their refusal
+abbrev pub markRules : ℕ → List ℕ → List ℕ → List Rule
+markRules n mark b = (n asks leb 5 (length b)) ∷ (n asks startsWith mark b) ∷ (n asks eqb (sixteen (byte b 3) (byte b 4)) 1) ∷ []
+
 unfoldable pub bookRules : List ℕ → List Rule
-bookRules b =
-    (40 asks leb 5 (length b))
-    ∷ (40 asks startsWith book.mark b)
-    ∷ (40 asks eqb (sixteen (byte b 3) (byte b 4)) 1)
-    ∷ (map asBook (bodyRules b) ++ ((41 asks leb (length b) (bookEnd b)) ∷ []))
+bookRules b = markRules 40 book.mark b ++ (map asBook (bodyRules b) ++ ((41 asks leb (length b) (bookEnd b)) ∷ []))
 
 -- "42 when the list's buffer is shorter than the list; they are tested in this order"
 abbrev pub listRule : List Pair → ℕ → Rule
@@ -226,33 +226,31 @@ comparingRules b room = bookRules b ++ (listRule (clashing (bookOf b)) room ∷ 
 
 -- The rules of an hours file (document 02, No. 6), of its bytes h, for n templates. The template's count at offset k, and its windows' bytes: "43 when .. a count
 -- is above 4, or bytes are missing".
-abbrev pub ownRules : List ℕ → ℕ → List Rule
-ownRules h k = (43 asks ltb k (length h)) ∷ (43 asks leb (byte h k) 4) ∷ (43 asks leb (k + 1 + 4 * byte h k) (length h)) ∷ []
-
--- so many windows from offset k on, the end of the preceding one given: "44 when a start is not below its end or an end is above 10,080. 45 when a window starts
--- before the preceding one of its template ends."
-unfoldable pub windowRules : List ℕ → ℕ → ℕ → ℕ → List Rule
-windowRules h before k zero = []
-windowRules h before k (suc n) =
-    (44 asks (ltb (minuteAt h k) (minuteAt h (k + 2)) && leb (minuteAt h (k + 2)) 10080))
-    ∷ (45 asks leb before (minuteAt h k))
-    ∷ windowRules h (minuteAt h (k + 2)) (k + 4) n
-
--- "43 when mark or version is wrong, a count is above 4, or bytes are missing or left over for the book's templates.", and "then 44 and 45 window by window"
 abbrev pub ownBytes : List ℕ → ℕ → ℕ
 ownBytes h k = 1 + 4 * byte h k
 
+abbrev pub ownRules : List ℕ → ℕ → List Rule
+ownRules h k = (43 asks ltb k (length h)) ∷ (43 asks leb (byte h k) 4) ∷ (43 asks leb (k + ownBytes h k) (length h)) ∷ []
+
+-- so many windows from offset k on, the end of the preceding one given: "44 when a start is not below its end or an end is above 10,080. 45 when a window starts
+-- before the preceding one of its template ends."
+unfoldable pub intervalRules : List ℕ → ℕ → ℕ → ℕ → List Rule
+intervalRules h before k zero = []
+intervalRules h before k (suc n) =
+    (44 asks (ltb (minuteAt h k) (minuteAt h (k + 2)) && leb (minuteAt h (k + 2)) 10080))
+    ∷ (45 asks leb before (minuteAt h k))
+    ∷ intervalRules h (minuteAt h (k + 2)) (k + 4) n
+
+-- "43 when mark or version is wrong, a count is above 4, or bytes are missing or left over for the book's templates.", and "then 44 and 45 window by window"
 unfoldable pub hoursRules : ℕ → List ℕ → List Rule
 hoursRules n h =
-    (43 asks leb 5 (length h))
-    ∷ (43 asks startsWith schedule.mark h)
-    ∷ (43 asks eqb (sixteen (byte h 3) (byte h 4)) 1)
-    ∷ (severalRules n (ownRules h) (ownBytes h) 5
-    ++ ((43 asks leb (length h) (past n (ownBytes h) 5)) ∷ severalRules n (λ k. windowRules h 0 (k + 1) (byte h k)) (ownBytes h) 5))
+    markRules 43 schedule.mark h
+    ++ (severalRules n (ownRules h) (ownBytes h) 5
+    ++ ((43 asks leb (length h) (past n (ownBytes h) 5)) ∷ severalRules n (λ k. intervalRules h 0 (k + 1) (byte h k)) (ownBytes h) 5))
 
 -- "43 comes after 41, then 44 and 45 window by window, then 42."
-unfoldable pub schedulingRules : List ℕ → List ℕ → ℕ → List Rule
-schedulingRules b h room =
+unfoldable pub comparingHoursRules : List ℕ → List ℕ → ℕ → List Rule
+comparingHoursRules b h room =
     bookRules b
     ++ (hoursRules (length (bookOf b .templates)) h
     ++ (listRule (sharing (bookOf b) (scheduleOf (length (bookOf b .templates)) h)) room ∷ []))

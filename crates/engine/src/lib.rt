@@ -2,7 +2,7 @@
 // untouched on a refusal. Each is one call of a function below it with the same contract, which does the work.
 ghost use mathlib.Core.Path.{_≡_};
 ghost use lib.ListN.{length};
-ghost use Rattle.calls.specs.Calls.{reading, checking, spelling, searching, counting, writing, filing, replying, comparing, scheduling};
+ghost use Rattle.calls.specs.Calls.{reading, checking, spelling, searching, counting, writing, filing, replying, comparing, comparingHours};
 ghost use Rattle.c_answer.specs.Returned.{returned, lentAfter, Handed, HandedOver, Decided, Explained};
 
 // Reads a sheet of any bytes. Returns 0, with its four counts (letters, fields, pairs, rules) in `counts`; or minus
@@ -98,7 +98,7 @@ pub extern "C" fn tpl_book(book: &[u8], list: &mut [u8]) -> i64
 // the number of such pairs, with later bytes as they were; or minus document 02's number of the first refusal, with all bytes as they were.
 #[no_mangle]
 pub extern "C" fn tpl_book_hours(book: &[u8], hours: &[u8], list: &mut [u8]) -> i64
-    ensures { λ r. ⌜ Decided (scheduling (now (book .entry)) (now (hours .entry)) (length (now (list .entry)))) (now (list .entry)) r (now (list .exit)) ⌝ }
+    ensures { λ r. ⌜ Decided (comparingHours (now (book .entry)) (now (hours .entry)) (length (now (list .entry)))) (now (list .entry)) r (now (list .exit)) ⌝ }
 {
     c_hours::book_hours(book, hours, list)
 }

@@ -1,6 +1,6 @@
 -- Laws of specs/Lists on ranges, on what is written of each element, on what a test keeps, and on totals. Assumes nothing.
 use mathlib.Core.Path.{_≡_, refl, sym, ap, ap₂, subst, _∙_}
-use mathlib.Core.Bool.{Bool, true, false, _&&_}
+use mathlib.Core.Bool.{Bool, true, false, _&&_, _||_}
 use mathlib.Core.List.{List, [], _∷_, _++_, map, append-assoc}
 use Prim.Native.Nat.{ℕ, zero, suc, _+_, _-_, _*_, _<_, _≤_}
 use native.Mathlib.Nat.{suc-mul}
@@ -266,20 +266,32 @@ keep-one t n a h e one =
     ∙ ap (λ xs. a ∷ xs) (keep-none t others (from-in (λ b. t b ≡ false) (suc a) (n - suc a) (λ b l u. fails b (omega arith) (λ d. omega arith)))))
 
 -- whether some number of a range passes a test
+module _ (p : ℕ → Bool) where
+  pub range-out : (a n : ℕ) → any p (from a n) ≡ true → (i : ℕ) × (i < a + n) × (p i ≡ true)
+  unfolding any from
+  range-out a zero e = never e
+  range-out a (suc n) e = by-test (p a)
+      (λ t. (a, omega arith, t))
+      (λ t. let r = range-out (suc a) n (rw t at e) in (r .0, omega (arith, r .1), r .2))
+
+  pub range-in : (a n i : ℕ) → a ≤ i → i < a + n → p i ≡ true → any p (from a n) ≡ true
+  unfolding any from
+  range-in a zero i low high e = absurd (omega arith)
+  range-in a (suc n) i low high e = by-test (eqb a i)
+      (λ t. or-left _ (ap p (eqb-true a i t) ∙ e))
+      (λ t. or-right (p a) (range-in (suc a) n i (lt-of-le-ne low (eqb-false a i t)) (omega arith) e))
+
+any-map : {A B : Type 0} (p : B → Bool) (h : A → B) (xs : List A) → any p (map h xs) ≡ any (λ x. p (h x)) xs
+unfolding any
+any-map p h [] = refl
+any-map p h (x ∷ xs) = ap (λ t. p (h x) || t) (any-map p h xs)
+
 module _ {A : Type 0} (p : A → Bool) (h : ℕ → A) where
   pub any-out : (a n : ℕ) → any p (map h (from a n)) ≡ true → (i : ℕ) × (i < a + n) × (p (h i) ≡ true)
-  unfolding any from
-  any-out a zero e = never e
-  any-out a (suc n) e = by-test (p (h a))
-      (λ t. (a, omega arith, t))
-      (λ t. let r = any-out (suc a) n (rw t at e) in (r .0, omega (arith, r .1), r .2))
+  any-out a n e = range-out (λ i. p (h i)) a n (sym (any-map p h (from a n)) ∙ e)
 
   pub any-in : (a n i : ℕ) → a ≤ i → i < a + n → p (h i) ≡ true → any p (map h (from a n)) ≡ true
-  unfolding any from
-  any-in a zero i low high e = absurd (omega arith)
-  any-in a (suc n) i low high e = by-test (eqb a i)
-      (λ t. or-left _ (ap (λ j. p (h j)) (eqb-true a i t) ∙ e))
-      (λ t. or-right (p (h a)) (any-in (suc a) n i (lt-of-le-ne low (eqb-false a i t)) (omega arith) e))
+  any-in a n i low high e = any-map p h (from a n) ∙ range-in (λ i. p (h i)) a n i low high e
 
 -- Totals.
 pub total-head : (n : ℕ) (h : ℕ → ℕ) → total (suc n) h ≡ h 0 + total n (λ i. h (suc i))

@@ -8,14 +8,11 @@ use Prim.Native.Nat.{ℕ, zero, suc, _+_, _*_, _≤_}
 use native.Mathlib.Omega.{arith}
 use native.Mathlib.Nat.{mul-le-mul}
 use lib.Dec.{leb}
-use lib.ListN.{length, getD, take, drop, take-append-drop, length-take}
-use borrow.Author.Tests.{leb-true, leb-false}
-use lib.Seq.{take-all}
+use lib.ListN.{length, getD, take}
 use Rattle.model.specs.Lists.{each, All, Bytes}
 use Rattle.model.specs.Sheet.{Sheet, width, symbolOf, Step, got, fault, _then_, letterByte, limitByte, countByte, templateByte, coefficientByte, mostByte, row, times, sides, anEquation, aConstraint, Counts, opening, walk, accepted, ended, read, countsOf, encodeEquation, encodeConstraint, header, encode}
 use Rattle.model.specs.Range.{EquationIn, ConstraintIn, CountsIn, InRange}
-use Rattle.model.proofs.Lists.{by-test}
-use Rattle.model.proofs.Steps.{same-got, went, longer, Within, within-got, within-more, within-must, within-then, within-times}
+use Rattle.model.proofs.Steps.{same-got, went, longer, Within, within-got, within-more, within-must, within-then, within-times, prefix-decides}
 use Rattle.model.proofs.Rows.{allPass, row-reads, row-exact, within-row}
 use Rattle.model.proofs.Faithful.{rest-bytes, Several, times-reads, times-exact}
 use Rattle.model.proofs.Opening.{opening-reads, opening-exact, within-opening}
@@ -75,12 +72,7 @@ read-longer xs ys h =
     ∙ longer-ended ys (opening xs then walk) (λ a zs e. let k = within-read .spends xs e in omega arith)
 
 pub read-prefix : (b : List ℕ) → read b ≡ read (take 160 b)
-read-prefix b =
-    by-test (leb (length b) 160)
-    (λ e. let h = leb-true (length b) 160 e in rw (take-all 160 b h))
-    (λ e.
-    let h = leb-false (length b) 160 e in
-    ap read (sym (take-append-drop 160 b)) ∙ read-longer (take 160 b) (drop 160 b) (rw (length-take 160 b) (omega arith)))
+read-prefix = prefix-decides read 160 read-longer
 
 -- The bytes of a sheet are read as that sheet.
 module _ (s : Sheet) (ok : InRange s) where

@@ -1,11 +1,14 @@
 -- How a walk goes on: what is known when it got something, and that a longer list is read alike.
 -- `Within k p`: p takes at most k bytes, and with k bytes at hand it does not see what follows them. Assumes nothing.
-use mathlib.Core.Path.{_≡_, refl, ap, subst, _∙_}
+use mathlib.Core.Path.{_≡_, refl, sym, ap, subst, _∙_}
 use mathlib.Core.Bool.{Bool, true, false}
 use mathlib.Core.List.{List, [], _∷_, _++_}
 use Prim.Native.Nat.{ℕ, zero, suc, _+_, _*_, _≤_}
 use native.Mathlib.Omega.{arith}
-use lib.ListN.{length}
+use lib.Dec.{leb}
+use lib.ListN.{length, take, drop, take-append-drop, length-take}
+use lib.Seq.{take-all}
+use borrow.Author.Tests.{leb-true, leb-false}
 use Rattle.model.specs.Sheet.{Step, got, fault, _then_, must, times}
 
 pub no-fault : {A P : Type 0} {n : ℕ} {a : A} {xs : List ℕ} → fault n ≡ got a xs → P
@@ -92,3 +95,13 @@ module _ {A : Type 0} (k : ℕ) (one : List ℕ → Step A) (w : Within k one) w
       (within-then k (n * k + 0) one (λ a ys. times n one ys then (λ more zs. got (a ∷ more) zs)) w
       (λ xs a zs e. within-then (n * k) 0 (times n one) (λ more zs. got (a ∷ more) zs) (within-times n) (λ xs more zs e. within-got (a ∷ more))))
       (omega arith)
+
+-- What longer lists do not change, so many bytes decide.
+pub prefix-decides : {R : Type 0} (f : List ℕ → R) (k : ℕ) → ((xs ys : List ℕ) → k ≤ length xs → f (xs ++ ys) ≡ f xs) → (b : List ℕ) → f b ≡ f (take k b)
+prefix-decides f k same b = by-length (leb (length b) k) refl
+  where
+    by-length : (t : Bool) → leb (length b) k ≡ t → f b ≡ f (take k b)
+    by-length true e = let h = leb-true (length b) k e in rw (take-all k b h)
+    by-length false e =
+        let h = leb-false (length b) k e in
+        ap f (sym (take-append-drop k b)) ∙ same (take k b) (drop k b) (rw (length-take k b) (omega arith))

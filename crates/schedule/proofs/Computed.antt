@@ -11,8 +11,8 @@ use Rattle.model.specs.Word.{spell, sameLetter, sameWord, equationHolds, constr
 use Rattle.model.specs.Solvable.{allTexts, substitutions, solvable}
 use Rattle.book.specs.Book.{Book, count, opens}
 use Rattle.book.specs.Pairs.{asked, pairs, clashing, listBytes}
-use Rattle.schedule.specs.Schedule.{Interval, Schedule, minute, anInterval, someIntervals, accepted, refused, tested, allTested, mark, readHours}
-use Rattle.schedule.specs.Shared.{sent, share, sharing}
+use Rattle.schedule.specs.Schedule.{Interval, minute, anInterval, someIntervals, accepted, refused, tested, allTested, mark, readHours}
+use Rattle.schedule.specs.Shared.{sent, share, sharing, overlaps}
 
 infix 6 _to_
 abbrev pub _to_ : ℕ → ℕ → Interval
@@ -52,10 +52,14 @@ damaged =
     ∷ (mark ++ (1 ∷ 0 ∷ 0 ∷ 0 ∷ []) gives 43)
     ∷ (mark ++ (0 ∷ 2 ∷ 0 ∷ 0 ∷ []) gives 43)
     ∷ (mark ++ (1 ∷ 1 ∷ 0 ∷ 0 ∷ []) gives 43)
-    -- a template missing; one too many
+    -- a wrong mark before a window that is empty
+    ∷ (84 ∷ 80 ∷ 76 ∷ 0 ∷ 1 ∷ 0 ∷ 1 ∷ 0 ∷ 9 ∷ 0 ∷ 9 ∷ [] gives 43)
+    -- five good bytes and no more; a template missing; one too many
+    ∷ (hours [] gives 43)
     ∷ (hours (0 ∷ []) gives 43)
     ∷ (hours (0 ∷ 0 ∷ 0 ∷ []) gives 43)
-    -- five windows
+    -- 255 windows, and five
+    ∷ (hours (0 ∷ 255 ∷ []) gives 43)
     ∷ (hours (0 ∷ 5 ∷ 0 ∷ 0 ∷ 0 ∷ 1 ∷ 0 ∷ 1 ∷ 0 ∷ 2 ∷ 0 ∷ 2 ∷ 0 ∷ 3 ∷ 0 ∷ 3 ∷ 0 ∷ 4 ∷ 0 ∷ 4 ∷ 0 ∷ 5 ∷ []) gives 43)
     -- the last byte missing, and the last minute
     ∷ (hours (0 ∷ 1 ∷ 0 ∷ 0 ∷ 0 ∷ []) gives 43)
@@ -137,6 +141,11 @@ weeks =
 pub shares : map (λ (t : Two). share (t .one ∷ t .other ∷ []) 0 1) weeks ≡ map (λ (t : Two). t .shared) weeks
 unfolding share sent any from
 shares = refl
+
+-- and by the ends
+pub overlapping : map (λ (t : Two). overlaps (t .one) (t .other)) weeks ≡ map (λ (t : Two). t .shared) weeks
+unfolding overlaps any
+overlapping = refl
 
 -- A, A, A and B: the first three clash with each other. The first is sent in the first hour, the second in the next, the third in the last minute of the one and
 -- the first of the other.

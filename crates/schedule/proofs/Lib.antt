@@ -1,5 +1,6 @@
 pub mod Computed
 pub mod Reading
-pub mod Meeting
+pub mod Faults
+pub mod Overlapping
 pub mod Offsets
 pub mod Turns

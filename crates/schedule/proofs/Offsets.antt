@@ -1,23 +1,21 @@
 -- An hours file read by offsets: where its bytes fit the counts, the walk reads what stands there, and else it ends in a fault or leaves bytes over. Assumes nothing.
-use mathlib.Core.Path.{_≡_, refl, sym, ap, subst, _∙_}
+use mathlib.Core.Path.{_≡_, refl, ap}
 use mathlib.Core.Bool.{Bool, true, false, _&&_}
 use mathlib.Core.List.{List, [], _∷_}
 use Prim.Native.Nat.{ℕ, zero, suc, _+_, _*_, _<_, _≤_}
-use native.Mathlib.Nat.{add-zero}
 use native.Mathlib.Numerals.{add-one}
 use native.Mathlib.Omega.{arith}
-use lib.Dec.{leb, ltb, eqb}
-use lib.ListN.{length, getD, drop, drop-of-length-le}
+use lib.Dec.{leb, ltb}
+use lib.ListN.{length, drop, drop-of-length-le}
 use lib.Seq.{drop-cons}
-use borrow.Author.Tests.{le-leb, lt-ltb, leb-true, leb-false, ltb-true, ltb-false, eqb-true, eqb-false}
-use Rattle.model.specs.Lists.{pick, between}
+use borrow.Author.Tests.{leb-true, leb-false, ltb-true, ltb-false, eqb-true, eqb-false}
+use Rattle.model.specs.Lists.{between}
 use Rattle.model.specs.Sheet.{Step, got, fault, _then_, times, byte}
 use Rattle.model.proofs.Lists.{never, by-test, and-split}
 use Rattle.model.proofs.Opening.{between-in}
 use Rattle.book.specs.Book.{count, opens}
-use Rattle.book.proofs.Reading.{count-exact}
-use Rattle.schedule.specs.Schedule.{Interval, Schedule, intervals, minute, anInterval, someIntervals, Reading, accepted, refused, allTested, mark, ended, readHours, scheduleIn, scheduleOf, Admitted}
-use Rattle.schedule.specs.Offsets.{intervalAt, minuteAt, standing, ownAt, nextAt, startAt, laid, fits}
+use Rattle.schedule.specs.Schedule.{Schedule, minute, anInterval, someIntervals, accepted, refused, allTested, mark, ended, readHours}
+use Rattle.schedule.specs.Offsets.{intervalAt, minuteAt, standing, ownAt, nextAt, laid, fits}
 
 module _ (b : List ℕ) where
   -- A minute, an interval, several.

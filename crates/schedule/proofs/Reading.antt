@@ -1,35 +1,26 @@
 -- Reading an hours file is right. `read-encode`: the bytes of a schedule within the ranges are read as that schedule. `accepted-encode`: accepted bytes are those of
 -- their schedule, which is within the ranges. `read-prefix`: the first 278 bytes decide. Assumes nothing.
 use mathlib.Core.Path.{_≡_, refl, sym, ap, _∙_}
-use mathlib.Core.Bool.{true, false}
-use mathlib.Core.List.{List, [], _∷_, _++_, append-assoc, append-nil}
-use Prim.Native.Nat.{ℕ, _+_, _-_, _*_, _<_, _≤_}
+use mathlib.Core.Bool.{true}
+use mathlib.Core.List.{List, [], _∷_, _++_, append-nil}
+use Prim.Native.Nat.{ℕ, _+_, _-_, _*_, _≤_}
 use native.Mathlib.Omega.{arith}
 use lib.Dec.{leb, ltb}
-use lib.ListN.{length, take, drop, length-append, length-take, length-drop, take-append-drop}
-use lib.Seq.{take-all, drop-append-le}
-use borrow.Author.Tests.{le-leb, lt-ltb, leb-true, leb-false, ltb-true}
-use Rattle.model.specs.Lists.{pick, startsWith, each, All, Bytes}
-use Rattle.model.specs.Sheet.{Step, got, fault, _then_, times, sixteen, bytesOf}
+use lib.ListN.{length, take, drop, length-drop}
+use lib.Seq.{drop-append-le}
+use borrow.Author.Tests.{le-leb, lt-ltb, leb-true, ltb-true}
+use Rattle.model.specs.Lists.{startsWith, each, All, Bytes}
+use Rattle.model.specs.Sheet.{Step, got, fault, _then_, times, bytesOf}
 use Rattle.model.proofs.Lists.{by-test, and-split, and-join, weaken}
-use Rattle.model.proofs.Steps.{no-fault, same-got, went, longer, Within, within-got, within-more, within-then, within-times}
+use Rattle.model.proofs.Steps.{no-fault, same-got, went, longer, Within, within-got, within-more, within-then, within-times, prefix-decides}
 use Rattle.model.proofs.Faithful.{rest-bytes, Exact, Faithful, Several, times-reads, times-exact}
 use Rattle.model.proofs.Signed.{sixteen-bytes, high-byte, low-byte}
 use Rattle.book.specs.Book.{count, opens}
 use Rattle.book.proofs.Opening.{five-bytes, opens-longer}
 use Rattle.book.proofs.Reading.{count-reads, count-exact, within-count}
-use Rattle.schedule.specs.Schedule.{Interval, Schedule, minute, anInterval, someIntervals, Reading, accepted, refused, inWeek, tested, allTested, mark, ended, readHours, encodeInterval, encodeIntervals, encodeHours, IntervalIn, Ordered, OwnIn, ScheduleIn, scheduleIn, scheduleOf, Admitted}
+use Rattle.schedule.specs.Schedule.{Interval, Schedule, minute, anInterval, someIntervals, Reading, accepted, refused, inWeek, tested, allTested, mark, ended, readHours, encodeInterval, encodeIntervals, encodeHours, Minute, Minutes, Four, IntervalIn, Ordered, OwnIn, ScheduleIn, scheduleIn, scheduleOf, Admitted}
 
 -- The bytes, without a look at the minutes: any numbers of 16 bits.
-abbrev pub Minute : ℕ → Type 0
-Minute m = m < 65536
-
-abbrev pub Minutes : Interval → Type 0
-Minutes w = Minute (w .start) × Minute (w .end)
-
-abbrev pub Four : List Interval → Type 0
-Four ws = (length ws ≤ 4) × All Minutes ws
-
 minute-exact : (xs : List ℕ) {m : ℕ} {zs : List ℕ} → Bytes xs → minute xs ≡ got m zs → Exact bytesOf Minute xs m zs
 unfolding minute All
 minute-exact [] y h = no-fault h
@@ -82,13 +73,13 @@ intervals-faithful : Faithful someIntervals encodeIntervals Four
 intervals-faithful = record { reads = intervals-read; exact = intervals-exact }
 
 -- The minutes: a window that keeps its range, in order.
-interval-in : (w : Interval) → inWeek w ≡ true → IntervalIn w
+pub interval-in : (w : Interval) → inWeek w ≡ true → IntervalIn w
 interval-in w h = let a = and-split (ltb (w .start) (w .end)) (leb (w .end) 10080) h in record { some = ltb-true _ _ (a .0); within = leb-true _ _ (a .1) }
 
-in-interval : (w : Interval) → IntervalIn w → inWeek w ≡ true
+pub in-interval : (w : Interval) → IntervalIn w → inWeek w ≡ true
 in-interval w h = and-join (lt-ltb _ _ (h .some)) (le-leb _ _ (h .within))
 
-tested-goes : (before : ℕ) (ws : List Interval) (go : Reading) → All IntervalIn ws → Ordered before ws → tested before ws go ≡ go
+pub tested-goes : (before : ℕ) (ws : List Interval) (go : Reading) → All IntervalIn ws → Ordered before ws → tested before ws go ≡ go
 unfolding tested All Ordered
 tested-goes before [] go h o = refl
 tested-goes before (w ∷ ws) go h o = rw (in-interval w (h .0), le-leb before (w .start) (o .0)) (tested-goes (w .end) ws go (h .1) (o .1))
@@ -232,12 +223,7 @@ read-longer n xs ys h =
     )
 
 pub read-prefix : (n : ℕ) → n ≤ 16 → (b : List ℕ) → readHours n b ≡ readHours n (take 278 b)
-read-prefix n few b =
-    by-test (leb (length b) 278)
-    (λ e. let h = leb-true (length b) 278 e in rw (take-all 278 b h))
-    (λ e.
-    let h = leb-false (length b) 278 e in
-    ap (readHours n) (sym (take-append-drop 278 b)) ∙ read-longer n (take 278 b) (drop 278 b) (rw (length-take 278 b) (omega arith)))
+read-prefix n few = prefix-decides (readHours n) 278 (λ xs ys h. read-longer n xs ys (omega arith))
 
 -- and no accepted file is longer than 277 bytes
 pub hours-short : (n : ℕ) → n ≤ 16 → (b : List ℕ) {s : Schedule} → readHours n b ≡ accepted s → length b ≤ 277

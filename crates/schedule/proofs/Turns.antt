@@ -1,11 +1,11 @@
 -- What code that goes through an hours file by offsets needs at each turn, and what it knows of an accepted one. Assumes nothing.
-use mathlib.Core.Path.{_≡_, refl, sym, ap, subst, _∙_}
+use mathlib.Core.Path.{_≡_, refl, sym, ap, _∙_}
 use mathlib.Core.Bool.{Bool, true, false, _||_}
-use mathlib.Core.List.{List, [], _∷_}
-use Prim.Native.Nat.{ℕ, zero, suc, _+_, _-_, _*_, _<_, _≤_}
+use mathlib.Core.List.{List}
+use Prim.Native.Nat.{ℕ, zero, suc, _+_, _-_, _<_, _≤_}
 use native.Mathlib.Omega.{arith}
-use lib.Dec.{leb, ltb, eqb}
-use lib.ListN.{length, getD, drop}
+use lib.Dec.{leb, eqb}
+use lib.ListN.{length}
 use borrow.Author.Tests.{le-leb, lt-ltb, lt-leb, le-ltb}
 use Rattle.model.specs.Lists.{pick, any}
 use Rattle.model.specs.Sheet.{byte}
@@ -62,14 +62,14 @@ module _ (b : List ℕ) where
 
   -- The intervals of a template, w of c passed, the next one at offset k.
   module _ (before k c w : ℕ) (go : Reading) where
-    pub windows-done : c ≤ w → tested before (standing b k (c - w)) go ≡ go
+    pub intervals-done : c ≤ w → tested before (standing b k (c - w)) go ≡ go
     unfolding tested standing
-    windows-done h = let e : c - w ≡ 0 = omega arith in rw e
+    intervals-done h = let e : c - w ≡ 0 = omega arith in rw e
 
-    pub window-tested : w < c → tested before (standing b k (c - w)) go
+    pub interval-tested : w < c → tested before (standing b k (c - w)) go
         ≡ pick (inWeek (intervalAt b k)) (pick (leb before (intervalAt b k .start)) (tested (intervalAt b k .end) (standing b (k + 4) (c - (w + 1))) go) (refused 45)) (refused 44)
     unfolding tested standing
-    window-tested h = let e : c - w ≡ suc (c - (w + 1)) = omega arith in rw e
+    interval-tested h = let e : c - w ≡ suc (c - (w + 1)) = omega arith in rw e
 
   -- whether some interval passes a test
   module _ (f : Interval → Bool) (k c w : ℕ) where

@@ -54,8 +54,8 @@ pub data Reading : Type 0 where
 abbrev pub inWeek : Interval → Bool
 inWeek w = ltb (w .start) (w .end) && leb (w .end) 10080
 
--- "45 when a window starts before the preceding one of its template ends": the intervals of one template that are left, the end of the preceding one given (0 where
--- there is none)
+-- the intervals of one template that are left, the end of the preceding one given (0 where there is none): 44 first, and then "45 when a window starts before the
+-- preceding one of its template ends"
 unfoldable pub tested : ℕ → List Interval → Reading → Reading
 tested before [] go = go
 tested before (w ∷ ws) go = pick (inWeek w) (pick (leb before (w .start)) (tested (w .end) ws go) (refused 45)) (refused 44)
@@ -86,6 +86,16 @@ encodeIntervals ws = (length ws ∷ []) ++ each ws encodeInterval
 
 unfoldable pub encodeHours : Schedule → List ℕ
 encodeHours s = mark ++ (bytesOf 1 ++ each s encodeIntervals)
+
+-- What the bytes alone ask, whatever the minutes: 16 bits for each, and at most four intervals for a template.
+abbrev pub Minute : ℕ → Type 0
+Minute m = m < 65536
+
+abbrev pub Minutes : Interval → Type 0
+Minutes w = Minute (w .start) × Minute (w .end)
+
+abbrev pub Four : List Interval → Type 0
+Four ws = (length ws ≤ 4) × All Minutes ws
 
 -- The ranges: which schedules there are. An interval has a minute, and ends within the week.
 pub record IntervalIn (w : Interval) : Type 0 where

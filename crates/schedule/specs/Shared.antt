@@ -37,9 +37,9 @@ pub record Share (s : Schedule) (i j : ℕ) : Type 0 where
 unfoldable pub sharing : Book → Schedule → List Pair
 sharing k s = keep (λ p. share s (p .first) (p .second)) (clashing k)
 
--- The same by the ends alone, which decides it (`Meeting.antt`): each of two intervals starts before the other ends.
-abbrev pub meet : Interval → Interval → Bool
-meet v w = ltb (v .start) (w .end) && ltb (w .start) (v .end)
+-- The same by the ends alone, which decides it (`Overlapping.antt`): each of two intervals starts before the other ends.
+abbrev pub overlap : Interval → Interval → Bool
+overlap v w = ltb (v .start) (w .end) && ltb (w .start) (v .end)
 
-unfoldable pub meets : List Interval → List Interval → Bool
-meets vs ws = any (λ v. any (meet v) ws) vs
+unfoldable pub overlaps : List Interval → List Interval → Bool
+overlaps vs ws = any (λ v. any (overlap v) ws) vs

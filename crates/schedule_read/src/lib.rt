@@ -8,14 +8,15 @@ ghost use mathlib.Core.Path.{_≡_};
 ghost use mathlib.Core.Bool.{true};
 ghost use Prim.Native.Nat.{_+_, _<_, _≤_};
 ghost use lib.ListN.{length};
+ghost use Rattle.schedule.specs.Schedule.{inWeek};
 ghost use Rattle.schedule.specs.Offsets.{intervalAt, ownAt, nextAt, laid};
 ghost use Rattle.schedule.specs.Offsets as offsets;
-ghost use Rattle.schedule_read.specs.Answer.{numberOf, Windowed, Tests, TestsAll, Reads};
+ghost use Rattle.schedule_read.specs.Answer.{numberOf, TestsOne, Tests, TestsAll, Reads};
 
 // What reading refuses an hours file for: 43, 44 and 45.
 pub enum Refusal {
     File,
-    Window,
+    Bounds,
     Order,
 }
 
@@ -31,7 +32,7 @@ pub fn number(refusal: Refusal) -> u8
 {
     match refusal {
         Refusal::File => 43,
-        Refusal::Window => 44,
+        Refusal::Bounds => 44,
         Refusal::Order => 45,
     }
 }
@@ -61,18 +62,25 @@ fn fits(hours: &[u8], n: usize) -> bool
     at == hours.len()
 }
 
-// The interval at an offset, with the least start, where the preceding one ends.
-fn window(hours: &[u8], at: usize, least: usize) -> Reading
+// Whether an interval has a minute and ends within the week.
+fn in_week(start: usize, end: usize) -> bool
+    ensures { λ r. ⌜ r ≡ inWeek (record { start = start; end = end }) ⌝ }
+{
+    if end <= start {
+        return false;
+    }
+    end <= WEEK
+}
+
+// Tests the interval at an offset, with the least start, where the preceding one ends: accepted, or 44 or 45.
+fn interval(hours: &[u8], at: usize, least: usize) -> Reading
     requires { ⌜ at + 4 ≤ length (now hours) ⌝ }
-    ensures { λ r. ⌜ Windowed least (intervalAt (now (hours .entry)) at) r ⌝ }
+    ensures { λ r. ⌜ TestsOne least (intervalAt (now (hours .entry)) at) r ⌝ }
 {
     let start = minute(hours, at);
     let end = minute(hours, at + 2);
-    if end <= start {
-        return Reading::Refused(Refusal::Window);
-    }
-    if WEEK < end {
-        return Reading::Refused(Refusal::Window);
+    if !in_week(start, end) {
+        return Reading::Refused(Refusal::Bounds);
     }
     if start < least {
         return Reading::Refused(Refusal::Order);
@@ -80,8 +88,8 @@ fn window(hours: &[u8], at: usize, least: usize) -> Reading
     Reading::Accepted
 }
 
-// The intervals of the template whose count is at an offset.
-fn windows(hours: &[u8], at: usize) -> Reading
+// Tests the intervals of the template whose count is at an offset, one after another.
+fn intervals(hours: &[u8], at: usize) -> Reading
     requires { ⌜ (at < length (now hours)) × (nextAt (now hours) at ≤ length (now hours)) ⌝ }
     ensures { λ r. ⌜ Tests (ownAt (now (hours .entry)) at) r ⌝ }
 {
@@ -90,7 +98,7 @@ fn windows(hours: &[u8], at: usize) -> Reading
     let mut k = at + 1;
     let mut w: usize = 0;
     while w < n {
-        match window(hours, k, least) {
+        match interval(hours, k, least) {
             Reading::Refused(refusal) => {
                 return Reading::Refused(refusal);
             }
@@ -104,15 +112,15 @@ fn windows(hours: &[u8], at: usize) -> Reading
     Reading::Accepted
 }
 
-// The intervals of n templates that fit the file.
-fn all_windows(hours: &[u8], n: usize) -> Reading
+// Tests the intervals of n templates that fit the file, template by template.
+fn all_intervals(hours: &[u8], n: usize) -> Reading
     requires { ⌜ offsets.fits (now hours) 5 n ≡ true ⌝ }
     ensures { λ r. ⌜ TestsAll (laid (now (hours .entry)) 5 n) r ⌝ }
 {
     let mut at = FIRST;
     let mut i: usize = 0;
     while i < n {
-        match windows(hours, at) {
+        match intervals(hours, at) {
             Reading::Refused(refusal) => {
                 return Reading::Refused(refusal);
             }
@@ -135,5 +143,5 @@ pub fn read(hours: &[u8], n: usize) -> Reading
     if !fits(hours, n) {
         return Reading::Refused(Refusal::File);
     }
-    all_windows(hours, n)
+    all_intervals(hours, n)
 }

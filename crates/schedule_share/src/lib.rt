@@ -10,10 +10,10 @@ ghost use Rattle.schedule.specs.Schedule.{scheduleOf, Admitted};
 ghost use Rattle.schedule.specs.Shared as model;
 ghost use Rattle.schedule.specs.Offsets.{intervalAt, standing, ownAt, nextAt};
 
-// Whether the intervals at two offsets meet: each starts before the other ends.
-fn meet(hours: &[u8], v: usize, w: usize) -> bool
+// Whether the intervals at two offsets overlap: each starts before the other ends.
+fn overlap(hours: &[u8], v: usize, w: usize) -> bool
     requires { ⌜ (v + 4 ≤ length (now hours)) × (w + 4 ≤ length (now hours)) ⌝ }
-    ensures { λ r. ⌜ r ≡ model.meet (intervalAt (now (hours .entry)) v) (intervalAt (now (hours .entry)) w) ⌝ }
+    ensures { λ r. ⌜ r ≡ model.overlap (intervalAt (now (hours .entry)) v) (intervalAt (now (hours .entry)) w) ⌝ }
 {
     if minute(hours, w + 2) <= minute(hours, v) {
         return false;
@@ -21,15 +21,15 @@ fn meet(hours: &[u8], v: usize, w: usize) -> bool
     minute(hours, w) < minute(hours, v + 2)
 }
 
-// Whether the interval at an offset meets one of n that stand from another on.
-fn meets_one(hours: &[u8], v: usize, at: usize, n: usize) -> bool
+// Whether the interval at an offset overlaps one of n that stand from another on.
+fn overlaps_one(hours: &[u8], v: usize, at: usize, n: usize) -> bool
     requires { ⌜ (v + 4 ≤ length (now hours)) × (at + 4 * n ≤ length (now hours)) ⌝ }
-    ensures { λ r. ⌜ r ≡ any (model.meet (intervalAt (now (hours .entry)) v)) (standing (now (hours .entry)) at n) ⌝ }
+    ensures { λ r. ⌜ r ≡ any (model.overlap (intervalAt (now (hours .entry)) v)) (standing (now (hours .entry)) at n) ⌝ }
 {
     let mut k = at;
     let mut w: usize = 0;
     while w < n {
-        if meet(hours, v, k) {
+        if overlap(hours, v, k) {
             return true;
         }
         k += 4;
@@ -38,17 +38,17 @@ fn meets_one(hours: &[u8], v: usize, at: usize, n: usize) -> bool
     false
 }
 
-// Whether an interval of the template whose count is at the one offset meets one of the template whose count is at the other.
-fn meets(hours: &[u8], one: usize, other: usize) -> bool
+// Whether an interval of the template whose count is at the one offset overlaps one of the template whose count is at the other.
+fn overlaps(hours: &[u8], one: usize, other: usize) -> bool
     requires { ⌜ (one < length (now hours)) × (nextAt (now hours) one ≤ length (now hours)) × (other < length (now hours)) × (nextAt (now hours) other ≤ length (now hours)) ⌝ }
-    ensures { λ r. ⌜ r ≡ model.meets (ownAt (now (hours .entry)) one) (ownAt (now (hours .entry)) other) ⌝ }
+    ensures { λ r. ⌜ r ≡ model.overlaps (ownAt (now (hours .entry)) one) (ownAt (now (hours .entry)) other) ⌝ }
 {
     let m = wide(hours[one]);
     let n = wide(hours[other]);
     let mut k = one + 1;
     let mut v: usize = 0;
     while v < m {
-        if meets_one(hours, k, other + 1, n) {
+        if overlaps_one(hours, k, other + 1, n) {
             return true;
         }
         k += 4;
@@ -62,5 +62,5 @@ pub fn share(hours: &[u8], n: usize, i: usize, j: usize) -> bool
     requires { ⌜ Admitted n (now hours) × (i < n) × (j < n) ⌝ }
     ensures { λ r. ⌜ r ≡ model.share (scheduleOf n (now (hours .entry))) i j ⌝ }
 {
-    meets(hours, start(hours, n, i), start(hours, n, j))
+    overlaps(hours, start(hours, n, i), start(hours, n, j))
 }

@@ -2,8 +2,8 @@
 use mathlib.Core.Path.{subst}
 use lib.ListN.{length}
 use borrow.Author.Needs.{needs}
-use Rattle.calls.specs.Calls.{scheduling}
-use Rattle.calls.proofs.Comparing.{scheduling-book, decides-refused}
+use Rattle.calls.specs.Calls.{comparingHours}
+use Rattle.calls.proofs.Comparing.{comparing-hours-book, decides-refused}
 use Rattle.book_read.specs.Walk.{numberOf, Reads}
 use Rattle.book_hours.proofs.compare.Statement.{statement}
 use Rattle.book_hours.proofs.compare.Tie as tie
@@ -29,7 +29,7 @@ returns c =
     let b = a .book .now in
     let l = a .list .now in
     let refusal = c .before .refusal .given in
-    decides-refused (scheduling b (a .hours .now) (length l)) l (numberOf (refusal .0 .0)) (scheduling-book b (a .hours .now) (length l) (subst (Reads b) (refusal .1) (at-read .read .ensures)))
+    decides-refused (comparingHours b (a .hours .now) (length l)) l (numberOf (refusal .0 .0)) (comparing-hours-book b (a .hours .now) (length l) (subst (Reads b) (refusal .1) (at-read .read .ensures)))
 
 same-length : tie.Need-same-length
 same-length c = search needs

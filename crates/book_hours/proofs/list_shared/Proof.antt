@@ -1,12 +1,12 @@
 -- `book_hours::list_shared` meets its contract: the table wants the pairs that share a minute, and of these the ones that clash are listed. Assumes nothing.
-use mathlib.Core.Path.{_≡_, sym, ap, subst, _∙_}
+use mathlib.Core.Path.{sym, ap, subst, _∙_}
 use native.Mathlib.Omega.{arith}
 use lib.ListN.{length}
 use borrow.Author.Needs.{needs}
 use Rattle.book.specs.Book.{bookOf}
 use Rattle.schedule.specs.Schedule.{scheduleOf, Admitted}
-use Rattle.calls.specs.Calls.{listing, scheduling, Decides}
-use Rattle.calls.proofs.Comparing.{scheduling-accepted}
+use Rattle.calls.specs.Calls.{listing, comparingHours, Decides}
+use Rattle.calls.proofs.Comparing.{comparing-hours-accepted}
 use Rattle.book_list.specs.Answer.{compared}
 use Rattle.schedule_table.specs.Table.{Shows}
 use Rattle.book_hours.proofs.Laws.{shown-sharing}
@@ -45,7 +45,7 @@ shown c = subst (λ n. Shows n (scheduleOf n (start c .args .hours .now)) (c .pu
 
 done : (c : tie.After-list-wanted) →
     let a = start (at-table c) .args in
-    Decides (scheduling (a .book .now) (a .hours .now) (length (a .list .now))) (a .list .now) (compared (c .list-wanted .result)) (c .list-wanted .last .1 .1 .0)
+    Decides (comparingHours (a .book .now) (a .hours .now) (length (a .list .now))) (a .list .now) (compared (c .list-wanted .result)) (c .list-wanted .last .1 .1 .0)
 done c =
     let s = start (at-table c) in
     let a = s .args in
@@ -53,7 +53,7 @@ done c =
     let k = bookOf (a .book .now) in
     subst (λ z. Decides z b (compared (c .list-wanted .result)) (c .list-wanted .last .1 .1 .0))
     (ap (λ ps. listing ps (length b)) (shown-sharing k (scheduleOf (length (k .templates)) (a .hours .now)) (at-table c .put-table .last .0) (shown (at-table c)))
-    ∙ sym (scheduling-accepted (a .book .now) (a .hours .now) (length b) (s .pre .0 .0) (s .pre .1 .0)))
+    ∙ sym (comparing-hours-accepted (a .book .now) (a .hours .now) (length b) (s .pre .0 .0) (s .pre .1 .0)))
     (c .list-wanted .ensures)
 
 same-length : tie.Need-same-length

@@ -3,8 +3,8 @@ use mathlib.Core.Path.{_≡_, subst}
 use lib.ListN.{length}
 use borrow.Author.Needs.{needs}
 use Rattle.book.specs.Book.{bookOf}
-use Rattle.calls.specs.Calls.{scheduling}
-use Rattle.calls.proofs.Comparing.{scheduling-hours, decides-refused}
+use Rattle.calls.specs.Calls.{comparingHours}
+use Rattle.calls.proofs.Comparing.{comparing-hours-hours, decides-refused}
 use Rattle.schedule_read.specs.Answer.{numberOf, Reads}
 use Rattle.schedule_read.specs.declared.Reading.{Reading}
 use Rattle.book_hours.proofs.with_hours.Statement.{statement}
@@ -40,7 +40,7 @@ returns c =
     let s = start at in
     let b = s .args .list .now in
     let refusal = c .before .refusal .given in
-    decides-refused (scheduling (s .args .book .now) (s .args .hours .now) (length b)) b (numberOf (refusal .0 .0)) (scheduling-hours (s .args .book .now) (s .args .hours .now) (length b) (s .pre .0) (read at (refusal .1)))
+    decides-refused (comparingHours (s .args .book .now) (s .args .hours .now) (length b)) b (numberOf (refusal .0 .0)) (comparing-hours-hours (s .args .book .now) (s .args .hours .now) (length b) (s .pre .0) (read at (refusal .1)))
 
 same-length : tie.Need-same-length
 same-length c = search needs

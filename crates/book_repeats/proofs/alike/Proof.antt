@@ -1,11 +1,8 @@
 -- `book_repeats::alike` meets its contract: the limits, then the symbols. Assumes nothing.
-use mathlib.Core.Path.{_≡_, sym, ap, ap₂, _∙_}
-use mathlib.Core.Bool.{_&&_}
-use mathlib.Core.List.{map}
+use mathlib.Core.Path.{_≡_, sym, ap₂, _∙_}
 use borrow.Author.Needs.{needs}
 use borrow.Author.Tests.{not-true, not-false}
 use Rattle.model.specs.Lists as lists
-use Rattle.model.specs.Sheet.{symbolByte}
 use Rattle.book.specs.Book.{template, bookOf}
 use Rattle.book_repeats.specs.Repeats.{sameTemplate}
 use Rattle.book_repeats.proofs.alike.Statement.{statement}

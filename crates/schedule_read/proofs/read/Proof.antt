@@ -44,8 +44,8 @@ returns-2 c =
 fitted : (c : tie.Else2) → fits (start (c .before .before) .args .hours .now) 5 (start (c .before .before) .args .n) ≡ true
 fitted c = sym (c .before .fits2 .ensures) ∙ not-false _ (c .if2 .left)
 
-all-windows-requires : tie.Need-all-windows-requires
-all-windows-requires c κs = fitted c
+all-intervals-requires : tie.Need-all-intervals-requires
+all-intervals-requires c κs = fitted c
 
 returns-3 : tie.Need-returns-3
 returns-3 c =
@@ -53,8 +53,8 @@ returns-3 c =
     let else = at-fits .before .before in
     let a = start else .args in
     let b = a .hours .now in
-    told-reads (a .n) b (c .all-windows .result) (lent-bytes b (else .before .before .before .shared-slice-known .given))
-    (read-fits b (a .n) (opened else) (opens-long mark b (opened else)) (fitted at-fits)) (c .all-windows .ensures)
+    told-reads (a .n) b (c .all-intervals .result) (lent-bytes b (else .before .before .before .shared-slice-known .given))
+    (read-fits b (a .n) (opened else) (opens-long mark b (opened else)) (fitted at-fits)) (c .all-intervals .ensures)
 
 pub read-spec : {M : Type 1} → statement M
 read-spec =
@@ -65,5 +65,5 @@ read-spec =
     returns
     fits-requires
     returns-2
-    all-windows-requires
+    all-intervals-requires
     returns-3)

@@ -1,17 +1,18 @@
 -- Two templates share a minute exactly when an interval of the one and an interval of the other each start before the other ends. Assumes nothing.
-use mathlib.Core.Path.{_≡_, refl, sym, ap, _∙_}
-use mathlib.Core.Bool.{Bool, true, false, _&&_, _||_}
+use mathlib.Core.Path.{_≡_, refl, sym}
+use mathlib.Core.Bool.{Bool, true, false, _&&_}
 use mathlib.Core.List.{List, [], _∷_}
 use mathlib.Core.Logic.{_↔_}
-use Prim.Native.Nat.{ℕ, zero, suc, _+_, _<_, _≤_}
+use Prim.Native.Nat.{ℕ, zero, suc, _<_}
 use native.Mathlib.Omega.{arith}
 use lib.Dec.{leb, ltb}
 use lib.ListN.{length, getD}
 use borrow.Author.Tests.{le-leb, lt-ltb, leb-true, ltb-true, ltb-false}
-use Rattle.model.specs.Lists.{upTo, from, any, All}
+use Rattle.model.specs.Lists.{any}
+use Rattle.model.proofs.Keeping.{range-out, range-in}
 use Rattle.model.proofs.Lists.{never, by-test, and-split, and-join, or-left, or-right, or-cases, at}
 use Rattle.schedule.specs.Schedule.{Interval, Schedule, intervals, IntervalIn, OwnIn, ScheduleIn}
-use Rattle.schedule.specs.Shared.{during, sent, share, Sent, Share, meet, meets}
+use Rattle.schedule.specs.Shared.{during, sent, share, Sent, Share, overlap, overlaps}
 
 abbrev nothing : Interval
 nothing = record { start = 0; end = 0 }
@@ -35,19 +36,6 @@ module _ {A : Type 0} (p : A → Bool) (d : A) where
   any-there (x ∷ xs) h = or-cases (p x) (any p xs) h
       (λ e. record { place = 0; inside = omega arith; passes = e })
       (λ e. let s = any-there xs e in record { place = suc (s .place); inside = omega (arith, s .inside); passes = s .passes })
-
--- and some number of a range
-range-here : (p : ℕ → Bool) (c n i : ℕ) → c ≤ i → i < c + n → p i ≡ true → any p (from c n) ≡ true
-unfolding any from
-range-here p c zero i l m e = absurd (omega arith)
-range-here p c (suc n) i l m e = by-test (ltb c i)
-    (λ t. or-right (p c) (range-here p (suc c) n i (omega (arith, ltb-true c i t)) (omega arith) e))
-    (λ t. let q : i ≡ c = omega (arith, ltb-false c i t) in or-left (any p (from (suc c) n)) (ap p (sym q) ∙ e))
-
-range-there : (p : ℕ → Bool) (c n : ℕ) → any p (from c n) ≡ true → (i : ℕ) × (p i ≡ true)
-unfolding any from
-range-there p c zero h = never h
-range-there p c (suc n) h = or-cases (p c) (any p (from (suc c) n)) h (λ e. (c, e)) (λ e. range-there p (suc c) n e)
 
 same-truth : (a b : Bool) → (a ≡ true → b ≡ true) → (b ≡ true → a ≡ true) → a ≡ b
 same-truth true true f g = refl
@@ -78,14 +66,14 @@ module _ (n : ℕ) (s : Schedule) (ok : ScheduleIn n s) where
     share-there h =
         let f = h .of-first in
         let w = one-in i (f .number) hi (f .there) in
-        range-here (λ m. sent (intervals s i) m && sent (intervals s j) m) 0 10080 (h .minute) (omega arith) (omega (arith, f .before-end, w .within))
+        range-in (λ m. sent (intervals s i) m && sent (intervals s j) m) 0 10080 (h .minute) (omega arith) (omega (arith, f .before-end, w .within))
         (and-join (sent-means (intervals s i) (h .minute) .1 f) (sent-means (intervals s j) (h .minute) .1 (h .of-second)))
 
     there-share : share s i j ≡ true → Share s i j
     unfolding share
     there-share h =
-        let m = range-there (λ m. sent (intervals s i) m && sent (intervals s j) m) 0 10080 h in
-        let e = and-split (sent (intervals s i) (m .0)) (sent (intervals s j) (m .0)) (m .1) in
+        let m = range-out (λ m. sent (intervals s i) m && sent (intervals s j) m) 0 10080 h in
+        let e = and-split (sent (intervals s i) (m .0)) (sent (intervals s j) (m .0)) (m .2) in
         record { minute = m .0; of-first = sent-means (intervals s i) (m .0) .0 (e .0); of-second = sent-means (intervals s j) (m .0) .0 (e .1) }
 
     -- two templates share a minute: the test, and what it tests
@@ -93,12 +81,12 @@ module _ (n : ℕ) (s : Schedule) (ok : ScheduleIn n s) where
     share-means = (there-share, share-there)
 
     -- by the ends: the later of the two starts is a minute of both
-    meets-share : meets (intervals s i) (intervals s j) ≡ true → Share s i j
-    unfolding meets
-    meets-share h =
-        let v = any-there (λ v. any (meet v) (intervals s j)) nothing (intervals s i) h in
+    overlaps-share : overlaps (intervals s i) (intervals s j) ≡ true → Share s i j
+    unfolding overlaps
+    overlaps-share h =
+        let v = any-there (λ v. any (overlap v) (intervals s j)) nothing (intervals s i) h in
         let a = getD (intervals s i) (v .place) nothing in
-        let w = any-there (meet a) nothing (intervals s j) (v .passes) in
+        let w = any-there (overlap a) nothing (intervals s j) (v .passes) in
         let b = getD (intervals s j) (w .place) nothing in
         let e = and-split (ltb (a .start) (b .end)) (ltb (b .start) (a .end)) (w .passes) in
         let p = one-in i (v .place) hi (v .inside) in
@@ -115,20 +103,20 @@ module _ (n : ℕ) (s : Schedule) (ok : ScheduleIn n s) where
           of-second = record { number = w .place; there = w .inside; from-start = ltb-false _ _ t; before-end = ltb-true _ _ (e .0) };
         })
 
-    share-meets : Share s i j → meets (intervals s i) (intervals s j) ≡ true
-    unfolding meets
-    share-meets h =
+    share-overlaps : Share s i j → overlaps (intervals s i) (intervals s j) ≡ true
+    unfolding overlaps
+    share-overlaps h =
         let f = h .of-first in
         let g = h .of-second in
         let a = getD (intervals s i) (f .number) nothing in
         let b = getD (intervals s j) (g .number) nothing in
-        any-here (λ v. any (meet v) (intervals s j)) nothing (intervals s i) (f .number) (f .there)
-        (any-here (meet a) nothing (intervals s j) (g .number) (g .there)
+        any-here (λ v. any (overlap v) (intervals s j)) nothing (intervals s i) (f .number) (f .there)
+        (any-here (overlap a) nothing (intervals s j) (g .number) (g .there)
         (and-join (lt-ltb (a .start) (b .end) (omega (arith, f .from-start, g .before-end))) (lt-ltb (b .start) (a .end) (omega (arith, g .from-start, f .before-end)))))
 
     -- and the two tests are the same
-    pub meets-decides : meets (intervals s i) (intervals s j) ≡ share s i j
-    meets-decides = same-truth _ _ (λ e. share-there (meets-share e)) (λ e. share-meets (there-share e))
+    pub overlaps-decides : overlaps (intervals s i) (intervals s j) ≡ share s i j
+    overlaps-decides = same-truth _ _ (λ e. share-there (overlaps-share e)) (λ e. share-overlaps (there-share e))
 
 -- Without intervals a template is never sent.
 pub none-sent : (m : ℕ) → Sent [] m → ⊥
@@ -137,4 +125,4 @@ none-sent m h = omega (arith, h .there)
 -- Two templates that may be sent in the whole week share its first minute.
 pub whole-weeks-share : (s : Schedule) (i j : ℕ) → intervals s i ≡ record { start = 0; end = 10080 } ∷ [] → intervals s j ≡ record { start = 0; end = 10080 } ∷ [] → share s i j ≡ true
 unfolding share sent any
-whole-weeks-share s i j e f = range-here (λ m. sent (intervals s i) m && sent (intervals s j) m) 0 10080 0 (omega arith) (omega arith) (rw (e, f))
+whole-weeks-share s i j e f = range-in (λ m. sent (intervals s i) m && sent (intervals s j) m) 0 10080 0 (omega arith) (omega arith) (rw (e, f))

@@ -1,11 +1,11 @@
--- `schedule_share::meet` meets its contract: the two tests in turn. Assumes nothing.
+-- `schedule_share::overlap` meets its contract: the two tests in turn. Assumes nothing.
 use Prim.Native.Nat.{_+_}
 use native.Mathlib.Omega.{arith}
 use borrow.Author.Needs.{needs}
 use borrow.Author.Tests.{lt-ltb, le-ltb}
 use Rattle.schedule.specs.Offsets.{minuteAt}
-use Rattle.schedule_share.proofs.meet.Statement.{statement}
-use Rattle.schedule_share.proofs.meet.Tie as tie
+use Rattle.schedule_share.proofs.overlap.Statement.{statement}
+use Rattle.schedule_share.proofs.overlap.Tie as tie
 
 add-minute : tie.Need-add-minute
 add-minute c = search needs
@@ -41,8 +41,8 @@ returns-2 c =
     let b = a .hours .now in
     rw (at-third .minute3 .ensures, c .minute4 .ensures, lt-ltb (minuteAt b (a .v)) (minuteAt b (a .w + 2)) (omega (arith, at .before .minute .ensures, at .minute2 .ensures, else .if1 .left)))
 
-pub meet-spec : {M : Type 1} → statement M
-meet-spec =
+pub overlap-spec : {M : Type 1} → statement M
+overlap-spec =
     tie.close
     (tie.spec
     add-minute
