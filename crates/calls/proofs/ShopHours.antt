@@ -103,11 +103,12 @@ module _ (a b : ℕ) (some : 0 < b) (apart : b ≤ a) (within : a < 10080) where
       rw (le-leb 0 m (omega arith), lt-ltb m 10080 l)
       (ap (λ t. ltb m b || t) (or-false (leb a m && true) ∙ and-true (leb a m)))
 
--- "and one window ending where another starts shares none": no minute is in both; and templates with just these windows share no minute
+-- "and one window ending where another starts shares none": no minute is in both; and templates share none where each window of the one only touches those of the other,
+-- or lies apart from them
 pub touching-windows-share-none : (v w : Interval) → v .end ≡ w .start → (m : ℕ) → Sent (v ∷ []) m → Sent (w ∷ []) m → ⊥
 touching-windows-share-none v w e m a b = omega (arith, only-one v m a .1, only-one w m b .0)
 
--- windows of which each ends where one of the others starts, or before it, or starts where it ends, or after it
+-- one of the two ends where the other starts, or before it
 pub record Clear (v w : Interval) : Type 0 where
   pub before-or-after : (v .start < w .end → w .start < v .end → ⊥)
 
