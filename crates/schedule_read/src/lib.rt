@@ -79,7 +79,8 @@ fn interval(hours: &[u8], at: usize, least: usize) -> Reading
 {
     let start = minute(hours, at);
     let end = minute(hours, at + 2);
-    if !in_week(start, end) {
+    let inside = in_week(start, end);
+    if !inside {
         return Reading::Refused(Refusal::Bounds);
     }
     if start < least {
