@@ -35,12 +35,6 @@ same-decision (finished (v ∷ others)) = refl
 pub decision-number : (a : Answer) {answer : Answer} → answer ≡ decision a → returnedNumber answer ≡ returnedNumber a
 decision-number a e = ap returnedNumber e ∙ same-decision a
 
--- and a number from 1 on is what it decides
-pub number-decided : (a : Answer) (v : ℕ) → 1 ≤ v → ((n : ℕ) → a ≡ refused n → 1 ≤ n) → returnedNumber a ≡ pos v → decision a ≡ finished (v ∷ [])
-number-decided (refused n) v h from-one e = negative n (from-one n refl) e
-number-decided (finished []) v h from-one e = let z = pos-equal e in absurd (omega arith)
-number-decided (finished (n ∷ others)) v h from-one e = ap (λ k. finished (k ∷ [])) (pos-equal e)
-
 -- a call that answers no number returns the same
 pub same-returned : (a : Answer) → returned (unnumbered a) ≡ returned a
 same-returned (refused n) = refl
@@ -51,6 +45,10 @@ pub counted-decision : (a : Answer) (n : ℕ) → ((k : ℕ) → a ≡ refused k
 counted-decision (refused k) n from-one some e = negative k (from-one k refl) e
 counted-decision (finished []) n from-one some e = absurd (some refl)
 counted-decision (finished (v ∷ others)) n from-one some e = ap (λ m. finished (m ∷ [])) (pos-equal e)
+
+-- and so does one that returns a number from 1 on
+pub number-decided : (a : Answer) (v : ℕ) → 1 ≤ v → ((n : ℕ) → a ≡ refused n → 1 ≤ n) → returnedNumber a ≡ pos v → decision a ≡ finished (v ∷ [])
+number-decided a v h from-one e = counted-decision a v from-one (λ none. let z : 0 ≡ v = pos-equal (sym (ap returnedNumber none) ∙ e) in omega arith) e
 
 -- a call that returns a decision and hands the rest over does what `Decides` says
 module _ (a : Answer) (before after : List ℕ) (r : ℤ) (call : Decided a before r after) where

@@ -1,4 +1,4 @@
--- An hours file by offsets, as a reader overlaps it that goes from count to count: where the bytes of a template start, what stands there, and whether all of them
+-- An hours file by offsets, as a reader meets it that goes from count to count: where the bytes of a template start, what stands there, and whether all of them
 -- fit the file. `Offsets.antt` among the proofs shows that this is what is read.
 use mathlib.Core.Bool.{Bool, _&&_}
 use mathlib.Core.List.{List, [], _∷_}

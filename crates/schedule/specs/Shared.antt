@@ -37,7 +37,7 @@ pub record Share (s : Schedule) (i j : ℕ) : Type 0 where
 unfoldable pub sharing : Book → Schedule → List Pair
 sharing k s = keep (λ p. share s (p .first) (p .second)) (clashing k)
 
--- The same by the ends alone, which decides it (`Overlapping.antt`): each of two intervals starts before the other ends.
+-- A shared minute by the ends alone, which decide it (`Overlapping.antt`): each of two intervals starts before the other ends.
 abbrev pub overlap : Interval → Interval → Bool
 overlap v w = ltb (v .start) (w .end) && ltb (w .start) (v .end)
 
