@@ -21,7 +21,7 @@ enum tpl_refusal {
     /* Of a sheet. */
     TPL_UNDER_NINE_BYTES = 1,      /* under 9 bytes */
     TPL_MARK = 2,                  /* the first three bytes are not TPL */
-    TPL_VERSION = 3,               /* the version is neither 1 nor 2 */
+    TPL_VERSION = 3,               /* the version is not 1 */
     TPL_LETTER_COUNT = 4,          /* the letter count is not 1 to TPL_LETTERS_MOST */
     TPL_FIELD_COUNT = 5,           /* the field count is above TPL_FIELDS_MOST */
     TPL_PAIR_COUNT = 6,            /* the pair count is not 1 to TPL_PAIRS_MOST */
@@ -64,20 +64,13 @@ enum tpl_refusal {
     /* Of the hours of a book's templates. */
     TPL_HOURS_FAULT = 43,          /* the mark is not TPH, the version not 1, a count above TPL_WINDOWS_MOST, or bytes are missing or left over */
     TPL_WINDOW = 44,               /* a window's start is not below its end, or its end is above TPL_WEEK_MINUTES */
-    TPL_WINDOW_ORDER = 45,         /* a window starts before the preceding one of its template ends */
-    /* Of the kinds of a sheet's fields. */
-    TPL_LEAST_LENGTH = 46,         /* a field's least length is above its limit */
-    TPL_LETTER_SET = 47            /* a field's set of letters has a bit that is no letter's */
+    TPL_WINDOW_ORDER = 45          /* a window starts before the preceding one of its template ends */
 };
 
-/* A sheet has a header of 9 bytes, letters, a limit for each field, in version 2 a kind for each field, pairs of templates, and rules. A template is
- * a row of symbols: a letter's number, or TPL_FIELD_SYMBOL plus a field's number. Letters, fields, pairs and rules count from 0.
- * A kind says what texts a field may have, up to its limit. It is two bytes: a least length, and a set of letters, in which letter a has bit a, of value
- * 2 to the a. A text keeps it if it is not shorter than the least length and all its letters are in the set. All kinds stand after all limits, in the order
- * of the fields. A field whose set is empty can only be empty; where its least length is then above 0, no text keeps its kind, and the sheet is apart. A
- * sheet of version 1 has no kinds, and is read as version 2 with least lengths of 0 and sets of all letters.
+/* A sheet has a header of 9 bytes, letters, a limit for each field, pairs of templates, and rules. A template is a row of symbols: a letter's
+ * number, or TPL_FIELD_SYMBOL plus a field's number. Letters, fields, pairs and rules count from 0.
  */
-#define TPL_SHEET_MOST 171   /* no accepted sheet has more bytes; of version 1 none has more than 159 */
+#define TPL_SHEET_MOST 159   /* no accepted sheet has more bytes */
 #define TPL_LETTERS_MOST 8   /* and no fewer than 1 */
 #define TPL_FIELDS_MOST 6
 #define TPL_PAIRS_MOST 4     /* and no fewer than 1 */
@@ -89,8 +82,8 @@ enum tpl_refusal {
  * or minus the number of the first refusal:
  *   TPL_UNDER_NINE_BYTES, TPL_MARK, TPL_VERSION, TPL_LETTER_COUNT, TPL_FIELD_COUNT, TPL_PAIR_COUNT, TPL_RULE_COUNT in this order,
  * or else the first that is met on a walk through the bytes after the header:
- *   TPL_BYTE_MISSING; TPL_LETTER; TPL_LIMIT; in version 2 TPL_LEAST_LENGTH and TPL_LETTER_SET (of field 0, then of field 1 and so on);
- *   TPL_SYMBOL_COUNT; TPL_SYMBOL; TPL_WIDTH (after the symbols of a pair, left, then right); TPL_COEFFICIENT
+ *   TPL_BYTE_MISSING; TPL_LETTER; TPL_LIMIT; TPL_SYMBOL_COUNT; TPL_SYMBOL; TPL_WIDTH (after the symbols of a pair, left, then right);
+ *   TPL_COEFFICIENT
  * or else:
  *   TPL_BYTES_LEFT_OVER
  */
@@ -112,15 +105,13 @@ int64_t tpl_read(const uint8_t *sheet, size_t n, uint64_t counts[4]);
 /* Why a filling does not clash. tpl_check writes one of these to why[0], and to why[1] to why[4] the four numbers that stand beside it. */
 enum tpl_cause {
     TPL_PAIR_DIFFERS = 1, /* the pair's number, how many letters agree, the side of the rest (TPL_LEFT or TPL_RIGHT), the rest's length */
-    TPL_RULE_BROKEN = 2,  /* the rule's number, 0, 0, 0 */
-    TPL_KIND_BROKEN = 3   /* the field's number, 0, 0, 0 */
+    TPL_RULE_BROKEN = 2   /* the rule's number, 0, 0, 0 */
 };
 #define TPL_WHY_NUMBERS 5 /* all numbers of why */
 
-/* Checks the m bytes of a filling. Returns TPL_CLASH: in every pair both templates spell the same text, every rule holds, and every field's text
- * keeps its kind. Then why is unchanged. Or it returns TPL_DOES_NOT_CLASH, with all five numbers of why written. They tell the first pair whose two texts
- * differ, as TPL_PAIR_DIFFERS; or else, where in every pair the two are the same, the first rule that does not hold, as TPL_RULE_BROKEN; or else, where
- * every rule holds too, the first field whose text does not keep its kind, as TPL_KIND_BROKEN. That is no refusal: a text may be any up to its limit.
+/* Checks the m bytes of a filling. Returns TPL_CLASH: in every pair both templates spell the same text, and every rule holds. Then why is
+ * unchanged. Or it returns TPL_DOES_NOT_CLASH, with all five numbers of why written. They tell the first pair whose two texts differ, as
+ * TPL_PAIR_DIFFERS; or else, where in every pair the two are the same, the first rule that does not hold, as TPL_RULE_BROKEN.
  * Of two texts that differ, letters agree from the start up to the first place where they part or one of them ends. The rest is what the left text
  * has from there on, or, where the left text ends there, what the right one has; it is never empty. Of ab and acd 1 letter agrees, and the rest is b,
  * on the left; of ab and abc 2 letters agree, and the rest is c, on the right.
@@ -135,7 +126,7 @@ int64_t tpl_check(const uint8_t *sheet, size_t n, const uint8_t *filling, size_t
 
 /* Spells one template under a filling, in the sheet's letters, into a buffer of cap bytes. Pairs count from 0; side is TPL_LEFT or TPL_RIGHT;
  * both may be any numbers. Returns the text's length, with the text in the first bytes of the buffer and the later ones unchanged. No zero
- * byte is added. A buffer of TPL_TEXT_MOST is always long enough. Rules and kinds play no part.
+ * byte is added. A buffer of TPL_TEXT_MOST is always long enough.
  * Or it returns minus the number of the first refusal, which is one of tpl_read's, or else, in this order:
  *   TPL_PAIR_NUMBER, TPL_SIDE, those that tpl_check gives of a filling, TPL_BUFFER_TOO_SHORT
  */
@@ -199,7 +190,7 @@ int64_t tpl_reply(const uint8_t *sheet, size_t n, const uint8_t *reply, size_t m
 /* A book has several templates, say all of a shop, and asks of every two of them whether they can clash. It is the mark TPB, the version 1 in two
  * bytes, the letter count and the letters, the template count, and the templates. A template is its field count, a limit for each of its fields,
  * its symbol count and its symbols: a letter's number, or TPL_FIELD_SYMBOL plus the number of one of its own fields. Each template has fields of its
- * own, without kinds. What is so on a sheet is so here: 1 to TPL_LETTERS_MOST letters, from 33 to 126 and rising, limits up to TPL_FIELD_PLACES, at most
+ * own. What is so on a sheet is so here: 1 to TPL_LETTERS_MOST letters, from 33 to 126 and rising, limits up to TPL_FIELD_PLACES, at most
  * TPL_SYMBOLS_MOST symbols, and a width of at most TPL_TEXT_MOST. Templates and rules, like pairs, count from 0, and so do the fields of a template.
  */
 #define TPL_BOOK_MOST 287          /* no accepted book has more bytes */

@@ -13,9 +13,6 @@ mod book;
 #[path = "../../tests/outside/books.rs"]
 #[allow(dead_code)]
 mod books;
-#[path = "../../tests/outside/domains.rs"]
-#[allow(dead_code)]
-mod domains;
 #[path = "../../tests/outside/engine.rs"]
 #[allow(dead_code)]
 mod engine;

@@ -1,7 +1,6 @@
 //! Sheets to climb on, searched by `tpl_search`, and the steps that only sheets have.
 
 use crate::climb::Climber;
-use crate::domains;
 use crate::engine;
 use crate::place::Place;
 use crate::planted;
@@ -30,12 +29,9 @@ impl Place for Sheet {
         swap_symbols,
         swap_symbols,
         swap_sides,
-        change_own_limit,
-        change_own_letters,
+        change_limit,
+        change_letters,
         add_field,
-        change_domain,
-        change_domain,
-        change_version,
         change_pairs,
         copy_side,
         change_coefficient,
@@ -104,44 +100,6 @@ fn rule<'a>(random: &mut Random, sheet: &'a mut Sheet) -> Option<&'a mut Rule> {
     (count > 0).then(|| &mut sheet.rules[random.below(count)])
 }
 
-/// A limit changes, and no least length is above it.
-fn change_own_limit(random: &mut Random, sheet: &mut Sheet) {
-    change_limit(random, sheet);
-    let domains = sheet.domains.iter_mut().flatten();
-    for (domain, &limit) in domains.zip(&sheet.limits) {
-        domain.least = domain.least.min(limit);
-    }
-}
-
-/// A letter more, which some fields admit, or one less.
-fn change_own_letters(random: &mut Random, sheet: &mut Sheet) {
-    let before = sheet.letters.len();
-    change_letters(random, sheet);
-    let all = Domain::all(sheet.letters.len()).set;
-    for domain in sheet.domains.iter_mut().flatten() {
-        if random.chance(50) {
-            domain.set |= all & !Domain::all(before).set;
-        }
-        domain.set &= all;
-    }
-}
-
-/// A field's least length changes by one, or whether it admits a letter.
-fn change_domain(random: &mut Random, sheet: &mut Sheet) {
-    domains::change(random, sheet);
-}
-
-/// A sheet without domains gets some, which admit everything or are made by chance, and one with domains
-/// loses them.
-fn change_version(random: &mut Random, sheet: &mut Sheet) {
-    let l = sheet.letters.len();
-    sheet.domains = match sheet.domains {
-        Some(_) => None,
-        None if random.chance(50) => Some(domains::all(&sheet.limits, l)),
-        None => domains::mild(random, &sheet.limits, l),
-    };
-}
-
 fn swap_sides(random: &mut Random, sheet: &mut Sheet) {
     let number = random.below(sheet.pairs.len());
     let pair = &mut sheet.pairs[number];
@@ -156,12 +114,7 @@ fn copy_side(random: &mut Random, sheet: &mut Sheet) {
 }
 
 fn add_field(random: &mut Random, sheet: &mut Sheet) {
-    let limit = new_limit(random);
-    let l = sheet.letters.len();
-    sheet.limits.push(limit);
-    if let Some(domains) = &mut sheet.domains {
-        domains.push(domains::any_one(random, limit, l));
-    }
+    sheet.limits.push(new_limit(random));
     for rule in &mut sheet.rules {
         rule.coefficients.push(coefficient(random));
     }

@@ -2,7 +2,7 @@
 //! each template of a book names its own fields anew.
 
 use crate::book::Book;
-use crate::reader::{Domain, Rule, Sheet, Symbol, Template};
+use crate::reader::{Rule, Sheet, Symbol, Template};
 use std::fmt::{self, Display};
 
 pub struct Shown<'a, P>(pub &'a P);
@@ -15,9 +15,6 @@ impl Display for Shown<'_, Sheet> {
         let sheet = self.0;
         writeln!(out, "letters: {}", all_letters(&sheet.letters))?;
         writeln!(out, "limits:  {}", all_limits(&sheet.limits))?;
-        if let Some(domains) = &sheet.domains {
-            writeln!(out, "domains: {}", all_domains(domains))?;
-        }
         for pair in &sheet.pairs {
             writeln!(out, "pair:    {} = {}", side(&pair.left), side(&pair.right))?;
         }
@@ -51,18 +48,6 @@ fn all_limits(limits: &[u8]) -> String {
         .map(|(name, limit)| format!("{name} {limit}"))
         .collect();
     limits.join(", ")
-}
-
-/// Each field with its least length and the numbers of the letters that it admits.
-fn all_domains(domains: &[Domain]) -> String {
-    let shown = |(name, domain): (&char, &Domain)| {
-        let letters = (0..8).filter(|&letter| domain.admits(letter));
-        let set: String = letters.map(|letter| letter.to_string()).collect();
-        let set = if set.is_empty() { "none" } else { &set };
-        format!("{name} {} of {set}", domain.least)
-    };
-    let domains: Vec<String> = FIELDS.iter().zip(domains).map(shown).collect();
-    domains.join(", ")
 }
 
 /// A template's symbols. Its letters are shown by their numbers, as these are never a field's name.

@@ -1,7 +1,7 @@
 //! Sheets of any size, for what grows with it.
 
 use crate::reader::{
-    Domain, Pair, Rule, Sheet, Symbol, Template, GREATEST_COEFFICIENT, GREATEST_WIDTH, MOST_FIELDS,
+    Pair, Rule, Sheet, Symbol, Template, GREATEST_COEFFICIENT, GREATEST_WIDTH, MOST_FIELDS,
 };
 
 /// How large a sheet is: the greatest limit, and the counts of letters, pairs and rules.
@@ -32,21 +32,13 @@ fn widest(size: Size, rule_limit: i16) -> Sheet {
     sheet(size, pairs, (0..size.rules).map(rule).collect())
 }
 
-/// The sheet of version 1 with the most clauses, 45,822: all sums are above their rule's limit.
-pub fn most_clauses_of_1(size: Size) -> Sheet {
+/// The sheet of the most clauses, 45,822: all sums are above their rule's limit.
+pub fn most_clauses(size: Size) -> Sheet {
     widest(size, i16::MIN)
 }
 
-/// The sheet of the most clauses, 46,254: the same with fields that admit nothing at any place.
-pub fn most_clauses(size: Size) -> Sheet {
-    let mut sheet = most_clauses_of_1(size);
-    let nothing = |&least: &u8| Domain { least, set: 0 };
-    sheet.domains = Some(sheet.limits.iter().map(nothing).collect());
-    sheet
-}
-
-/// Nearly all clauses are of rules: as the sheet of version 1 with the most clauses, with one letter, and with
-/// no field in a template.
+/// Nearly all clauses are of rules: as the sheet of the most clauses, with one letter, and with no field
+/// in a template.
 pub fn mostly_rules() -> Sheet {
     let size = Size {
         letters: 1,
@@ -54,13 +46,13 @@ pub fn mostly_rules() -> Sheet {
     };
     Sheet {
         pairs: vec![read_pair(" ", size.letters)],
-        ..most_clauses_of_1(size)
+        ..most_clauses(size)
     }
 }
 
-/// Nearly all clauses are of pairs: as the sheet of version 1 with the most clauses, without rules.
+/// Nearly all clauses are of pairs: as the sheet of the most clauses, without rules.
 pub fn mostly_pairs() -> Sheet {
-    most_clauses_of_1(Size {
+    most_clauses(Size {
         rules: 0,
         ..GREATEST
     })
@@ -110,7 +102,6 @@ fn sheet(size: Size, pairs: [&str; 4], rules: Vec<Rule>) -> Sheet {
     Sheet {
         letters: (b'a'..).take(size.letters).collect(),
         limits: (0..MOST_FIELDS).map(limit).collect(),
-        domains: None,
         pairs,
         rules,
     }

@@ -1,5 +1,5 @@
-//! Lines of the largest clause file of version 1, drawn by chance and written one by one: by the library as
-//! it is, and by an earlier build of it, which may know no other version.
+//! Lines of the largest clause file, drawn by chance and written one by one: by the library as it is,
+//! and by an earlier build of it.
 
 use crate::drawn::{self, LINES};
 use crate::families::{self, GREATEST};
@@ -16,7 +16,7 @@ const BEFORE: &str = "target/bench/before/lines";
 /// The table of the lines, which must be those of the plain writer.
 pub fn table_of(setting: &Setting) -> String {
     progress("clause lines");
-    let sheet = families::most_clauses_of_1(GREATEST);
+    let sheet = families::most_clauses(GREATEST);
     save("sheet.tpl", &sheets::encode(&sheet));
     let file = writer::file_of(&sheet);
     let lines = drawn::numbers(file.clauses()).map(|number| &file.lines[number]);

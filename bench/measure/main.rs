@@ -3,7 +3,7 @@
 //! of how times grow.
 //!
 //! Its words: `--quick` to compare more than to measure, `--before` where there is an earlier build of the
-//! library too, then sheets' files (`NAME.tpl`) that are searched besides the hard ones, those of bench/kinds in a table of their own, then books' files
+//! library too, then sheets' files (`NAME.tpl`) that are searched besides the hard ones, then books' files
 //! (`NAME.tpb`) that are listed besides those of shops, then the names of the solvers that are installed. It runs in the repository's folder, and writes to target/bench.
 
 #[path = "../../tests/outside/assignment.rs"]
@@ -15,9 +15,6 @@ mod book;
 #[path = "../../tests/outside/books.rs"]
 #[allow(dead_code)]
 mod books;
-#[path = "../../tests/outside/domains.rs"]
-#[allow(dead_code)]
-mod domains;
 #[path = "../../tests/outside/fillings.rs"]
 #[allow(dead_code)]
 mod fillings;
@@ -94,17 +91,13 @@ pub struct Setting {
     pub effort: Effort,
     /// There is an earlier build of the library.
     pub before: bool,
-    /// Files of sheets besides the hard ones, and of those in which domains decide.
+    /// Files of sheets besides the hard ones.
     pub sheets: Vec<String>,
-    pub with_domains: Vec<String>,
     /// Files of books besides those of shops.
     pub books: Vec<String>,
     /// Solvers that are installed.
     pub solvers: Vec<String>,
 }
-
-/// The folder of the sheets in which domains decide, which document 02 calls kinds of field.
-const KINDS: &str = "bench/kinds/";
 
 const THOROUGH: Effort = Effort {
     runs: 11,
@@ -125,16 +118,13 @@ fn main() {
         words.partition(|word| word.starts_with("--"));
     let given = |option: &str| options.iter().any(|word| word == option);
     let words = words.into_iter();
-    let (sheets, words): (Vec<String>, Vec<String>) =
-        words.partition(|word| word.ends_with(".tpl"));
-    let (with_domains, sheets) = sheets.into_iter().partition(|file| file.starts_with(KINDS));
+    let (sheets, words): (_, Vec<String>) = words.partition(|word| word.ends_with(".tpl"));
     let words = words.into_iter();
     let (books, solvers) = words.partition(|word| word.ends_with(".tpb"));
     let setting = Setting {
         effort: if given("--quick") { QUICK } else { THOROUGH },
         before: given("--before"),
         sheets,
-        with_domains,
         books,
         solvers,
     };

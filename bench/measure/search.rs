@@ -32,8 +32,7 @@ pub struct Answered {
     pub solvers: Vec<Option<Timing>>,
 }
 
-/// The table of the hard sheets, that of sheets with kinds of field, and that of other sheets, if there are
-/// any.
+/// The table of the hard sheets, and that of other sheets, if there are any.
 pub fn tables(setting: &Setting) -> String {
     let hard = hard::all().into_iter().map(|hard| Asked {
         name: hard.name,
@@ -41,19 +40,13 @@ pub fn tables(setting: &Setting) -> String {
         clash: Some(hard.clash),
     });
     let mut hard: Vec<Asked> = hard.collect();
-    let [mut with_domains, mut others] = [&setting.with_domains, &setting.sheets]
-        .map(|files| files.iter().map(|file| read(file)).collect::<Vec<Asked>>());
+    let mut others: Vec<Asked> = setting.sheets.iter().map(|file| read(file)).collect();
     if setting.effort.quick {
-        for sheets in [&mut hard, &mut with_domains, &mut others] {
-            sheets.truncate(1);
-        }
+        hard.truncate(1);
+        others.truncate(1);
     }
     let mut text = "### Search\n\nThe sheets of `tests/hard`:\n\n".to_string();
     text += &one_table(setting, &hard);
-    if !with_domains.is_empty() {
-        text += "\nSheets with kinds of field (`bench/kinds`):\n\n";
-        text += &one_table(setting, &with_domains);
-    }
     if !others.is_empty() {
         text += "\nThe slowest sheets that climbing found:\n\n";
         text += &one_table(setting, &others);

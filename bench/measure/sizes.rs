@@ -55,16 +55,12 @@ pub fn table_of(setting: &Setting) -> String {
 }
 
 /// Sheets by what their clauses are of.
-fn measured_sheets() -> [(String, Sheet); 5] {
+fn measured_sheets() -> [(String, Sheet); 4] {
     let (name, everyday) = search::named(EVERYDAY, ".tpl");
     [
         (
             "the most clauses".to_string(),
             families::most_clauses(GREATEST),
-        ),
-        (
-            "the most clauses of version 1".to_string(),
-            families::most_clauses_of_1(GREATEST),
         ),
         (
             "rules, and empty templates".to_string(),

@@ -1,23 +1,18 @@
 //! A sheet's question in SMT-LIB's theory of strings (QF_SLIA), for solvers that take it: is there a
-//! clash? Each field is a string constant over the letters that it admits.
+//! clash? Each field is a string constant over the sheet's letters.
 
-use crate::reader::{Domain, Rule, Sheet, Symbol, Template};
+use crate::reader::{Rule, Sheet, Symbol, Template};
 
 /// The whole question.
 pub fn question(sheet: &Sheet) -> String {
     let mut lines = vec!["(set-logic QF_SLIA)".to_string()];
     for (number, &limit) in sheet.limits.iter().enumerate() {
-        let domain = sheet.domain(number);
         lines.push(format!("(declare-const f{number} String)"));
         lines.push(format!(
             "(assert (str.in_re f{number} (re.* {})))",
-            letters(sheet, domain)
+            letters(sheet)
         ));
         lines.push(format!("(assert (<= (str.len f{number}) {limit}))"));
-        if domain.least > 0 {
-            let least = domain.least;
-            lines.push(format!("(assert (>= (str.len f{number}) {least}))"));
-        }
     }
     for pair in &sheet.pairs {
         let [left, right] = [&pair.left, &pair.right].map(|side| spelled(sheet, side));
@@ -43,11 +38,10 @@ fn applied(function: &str, terms: &[String], none: &str) -> String {
     }
 }
 
-/// The regular language of one letter that a domain admits: letters that follow on each other are a range.
-fn letters(sheet: &Sheet, domain: Domain) -> String {
+/// The regular language of one letter: letters that follow on each other are a range.
+fn letters(sheet: &Sheet) -> String {
     let mut runs: Vec<(u8, u8)> = Vec::new();
-    let letters = sheet.letters.iter().enumerate();
-    for (_, &letter) in letters.filter(|&(number, _)| domain.admits(number)) {
+    for &letter in &sheet.letters {
         match runs.last_mut() {
             Some(run) if run.1 + 1 == letter => run.1 = letter,
             _ => runs.push((letter, letter)),

@@ -17,10 +17,6 @@
  *
  *     no clash: pair 0 differs; letters that agree: 7, left over on the left: 2
  *
- * and, where fields only hold digits, `target/example examples/fire-kinds.tpl T0 1 01` prints
- *
- *     no clash: field 0 has a text that is not of its kind
- *
  * and `target/example` prints
  *
  *     templates 0 and 2 clash
@@ -182,9 +178,6 @@ static void print_why(const uint64_t why[TPL_WHY_NUMBERS]) {
         break;
     case TPL_RULE_BROKEN:
         printf("no clash: rule %d does not hold\n", (int)why[1]);
-        break;
-    case TPL_KIND_BROKEN:
-        printf("no clash: field %d has a text that is not of its kind\n", (int)why[1]);
         break;
     }
 }

@@ -1,7 +1,7 @@
 /* include/lunthegyr.h against the static library: each call that takes a sheet on document 01's sheet P, and those that take a book on a small
  * book and its hours, with an answer and with refusals, which change nothing that was lent; each cause why a filling does not clash, on a sheet with
- * two pairs and two rules and on one with kinds; the header's numbers against those of documents 01 and 02; and buffers of the named sizes on the largest
- * sheets of tests/clauses.d and tests/search.d, and on a largest book with the largest hours. To be run in the repository's folder. */
+ * two pairs and two rules; the header's numbers against those of documents 01 and 02; and buffers of the named sizes on the largest sheets of
+ * tests/clauses.d and tests/search.d, and on a largest book with the largest hours. To be run in the repository's folder. */
 #include <stdio.h>
 #include <stdlib.h>
 #include <string.h>
@@ -22,7 +22,7 @@ static void expect(int holds, const char *what) {
     }
 }
 
-/* The numbers of document 01 and, of books, hours and kinds, document 02. */
+/* The numbers of document 01 and, of books and hours, document 02. */
 static const struct { int constant, number; } numbers[] = {
     { TPL_UNDER_NINE_BYTES, 1 }, { TPL_MARK, 2 }, { TPL_VERSION, 3 }, { TPL_LETTER_COUNT, 4 }, { TPL_FIELD_COUNT, 5 },
     { TPL_PAIR_COUNT, 6 }, { TPL_RULE_COUNT, 7 }, { TPL_BYTE_MISSING, 8 }, { TPL_BYTES_LEFT_OVER, 9 }, { TPL_LETTER, 10 },
@@ -35,13 +35,12 @@ static const struct { int constant, number; } numbers[] = {
     { TPL_NO_CLASH, 39 },
     { TPL_BOOK_MARK, 40 }, { TPL_BOOK_FAULT, 41 }, { TPL_BUFFER_BELOW_LIST, 42 },
     { TPL_HOURS_FAULT, 43 }, { TPL_WINDOW, 44 }, { TPL_WINDOW_ORDER, 45 },
-    { TPL_LEAST_LENGTH, 46 }, { TPL_LETTER_SET, 47 },
     { TPL_LETTERS_MOST, 8 }, { TPL_FIELDS_MOST, 6 }, { TPL_PAIRS_MOST, 4 }, { TPL_RULES_MOST, 4 },
     { TPL_SYMBOLS_MOST, 12 }, { TPL_FIELD_SYMBOL, 128 },
     { TPL_FIELD_PLACES, 8 }, { TPL_FIELD_BYTES, 9 }, { TPL_FILLING_MOST, 9 * 6 }, { TPL_PAST_LENGTH, 255 },
     { TPL_LEFT, 0 }, { TPL_RIGHT, 1 }, { TPL_TEXT_MOST, 24 }, { TPL_LINE_MOST, 80 }, { TPL_REPLY_MOST, 65536 },
-    /* The header, and then the most letters, limits, kinds, pairs and rules. */
-    { TPL_SHEET_MOST, 9 + 8 + 6 + 6 * 2 + 4 * (2 + 12 + 12) + 4 * (6 + 2) },
+    /* The header, and then the most letters, limits, pairs and rules. */
+    { TPL_SHEET_MOST, 9 + 8 + 6 + 4 * (2 + 12 + 12) + 4 * (6 + 2) },
     { TPL_TEMPLATES_MOST, 16 }, { TPL_TEMPLATE_FIELDS_MOST, 3 },
     /* Mark, version, the most letters after their count, and the most templates after theirs, each of the most fields and symbols. */
     { TPL_BOOK_MOST, 3 + 2 + 1 + 8 + 1 + 16 * (1 + 3 + 1 + 12) },
@@ -52,7 +51,7 @@ static const struct { int constant, number; } numbers[] = {
     { TPL_HOURS_MOST, 3 + 2 + 16 * (1 + 4 * 4) },
     /* These are the engine's own. */
     { TPL_CLASH, 1 }, { TPL_DOES_NOT_CLASH, 0 }, { TPL_APART, 0 },
-    { TPL_PAIR_DIFFERS, 1 }, { TPL_RULE_BROKEN, 2 }, { TPL_KIND_BROKEN, 3 }, { TPL_WHY_NUMBERS, 5 }
+    { TPL_PAIR_DIFFERS, 1 }, { TPL_RULE_BROKEN, 2 }, { TPL_WHY_NUMBERS, 5 }
 };
 
 static void naming(void) {
@@ -115,7 +114,7 @@ static const struct { const char *x, *y; uint64_t cause, number, agreeing, side,
     { "", "", TPL_RULE_BROKEN, 1, 0, 0, 0 }
 };
 
-/* Gives a field a text of As, Bs and Cs. */
+/* Gives a field a text of As and Bs. */
 static void put(uint8_t *field, const char *text) {
     memset(field, TPL_PAST_LENGTH, TPL_FIELD_BYTES);
     field[0] = (uint8_t)strlen(text);
@@ -137,78 +136,6 @@ static void telling_why(void) {
             all_passed = 0;
         }
     }
-}
-
-/* The letters A, B and C, the fields X of limit 3 and Y of limit 2, X against Y, and X has at most 1 letter. X has at least 1 letter and no B, and Y no A. So
- * they clash with C alone. */
-#define KINDS_BYTES 26
-static const uint8_t kinds[KINDS_BYTES + 1] = { 'T', 'P', 'L', 0, 2, 3, 2, 1, 1, 'A', 'B', 'C', 3, 2, 1, 5, 0, 6, 1, 1, 128, 129, 1, 0, 0, 1, 0 };
-
-/* Texts for X and Y that do not clash there, and what is to be told of them. */
-static const struct { const char *x, *y; uint64_t cause, number; } causes_with_kinds[] = {
-    { "B", "A", TPL_PAIR_DIFFERS, 0 }, /* neither keeps its kind */
-    { "BB", "BB", TPL_RULE_BROKEN, 0 }, /* X does not keep its kind either */
-    { "", "", TPL_KIND_BROKEN, 0 }, /* too short */
-    { "B", "B", TPL_KIND_BROKEN, 0 },
-    { "A", "A", TPL_KIND_BROKEN, 1 }
-};
-
-/* Sheets that are refused, each a change of one byte of that one. */
-static const struct { enum tpl_refusal refusal; size_t offset; uint8_t byte; } damaged_kinds[8] = {
-    { TPL_VERSION, 4, 3 }, { TPL_VERSION, 4, 0 }, { TPL_VERSION, 3, 2 },
-    { TPL_LEAST_LENGTH, 14, 4 }, { TPL_LETTER_SET, 15, 8 }, { TPL_LEAST_LENGTH, 16, 3 }, { TPL_LETTER_SET, 17, 128 + 6 },
-    { TPL_LIMIT, 13, TPL_FIELD_PLACES + 1 }
-};
-
-static void refusing_kinds(void) {
-    uint64_t counts[4] = { 5, 6, 7, 8 };
-    uint8_t changed[KINDS_BYTES];
-    for (size_t i = 0; i < 8; i++) {
-        memcpy(changed, kinds, KINDS_BYTES);
-        changed[damaged_kinds[i].offset] = damaged_kinds[i].byte;
-        expect(tpl_read(changed, KINDS_BYTES, counts) == -(int64_t)damaged_kinds[i].refusal, "faulty kinds are refused with their number");
-    }
-    memcpy(changed, kinds, KINDS_BYTES);
-    changed[15] = 8;
-    changed[16] = changed[18] = 99;
-    expect(tpl_read(changed, KINDS_BYTES, counts) == -TPL_LETTER_SET, "47 of a field comes before 46 of a later one");
-    changed[14] = 99;
-    expect(tpl_read(changed, KINDS_BYTES, counts) == -TPL_LEAST_LENGTH, "46 of a field comes before 47 of it, and before 12");
-    changed[13] = 99;
-    expect(tpl_read(changed, KINDS_BYTES, counts) == -TPL_LIMIT, "11 of any field comes before 46");
-    expect(tpl_read(kinds, 17, counts) == -TPL_BYTE_MISSING, "a kind that is not whole is refused with 8");
-    expect(tpl_read(kinds, KINDS_BYTES + 1, counts) == -TPL_BYTES_LEFT_OVER, "a byte left over after kinds is refused with 9");
-    expect(is(counts, 5, 6, 7, 8), "a refusal of kinds leaves the counts");
-    expect(tpl_read(kinds, KINDS_BYTES, counts) == 0 && is(counts, 3, 2, 1, 1), "a sheet with kinds is read");
-}
-
-/* Gives X and Y these texts and checks them. */
-static int64_t check_kinds(const char *x, const char *y, uint8_t filling[2 * TPL_FIELD_BYTES], uint64_t why[LENT]) {
-    put(filling, x);
-    put(filling + TPL_FIELD_BYTES, y);
-    return tpl_check(kinds, KINDS_BYTES, filling, 2 * TPL_FIELD_BYTES, why);
-}
-
-static void keeping_kinds(void) {
-    uint64_t counts[3], more[3], why[LENT] = { 91, 92, 93, 94, 95, 96 };
-    uint8_t filling[2 * TPL_FIELD_BYTES], found[TPL_FILLING_MOST], text[TPL_TEXT_MOST], changed[KINDS_BYTES];
-    expect(check_kinds("C", "C", filling, why) == TPL_CLASH, "texts that keep all kinds clash");
-    expect(is_why(why, 91, 92, 93, 94, 95), "a clash with kinds has no cause");
-    expect(tpl_search(kinds, KINDS_BYTES, found, sizeof found) == TPL_CLASH && memcmp(found, filling, sizeof filling) == 0,
-           "the clash that is found keeps the kinds");
-    for (size_t i = 0; i < sizeof causes_with_kinds / sizeof causes_with_kinds[0]; i++) {
-        expect(check_kinds(causes_with_kinds[i].x, causes_with_kinds[i].y, filling, why) == TPL_DOES_NOT_CLASH, "texts that break a kind do not clash");
-        expect(why[0] == causes_with_kinds[i].cause && why[1] == causes_with_kinds[i].number, "with kinds the first cause is told");
-    }
-    expect(is_why(why, TPL_KIND_BROKEN, 1, 0, 0, 0), "the last of them tells field 1, and three zeros");
-    expect(tpl_spell(kinds, KINDS_BYTES, 0, TPL_RIGHT, filling, sizeof filling, text, sizeof text) == 1 && text[0] == 'A', "spelling looks at no kinds");
-    memcpy(changed, kinds, KINDS_BYTES);
-    changed[17] = 2;
-    expect(tpl_search(changed, KINDS_BYTES, found, sizeof found) == TPL_APART, "sets without a common letter keep texts apart");
-    changed[17] = 0;
-    expect(tpl_search(changed, KINDS_BYTES, found, sizeof found) == TPL_APART, "an empty set is legal, and its field can only be empty");
-    expect(tpl_count(kinds, KINDS_BYTES, counts) == 0 && tpl_count(changed, KINDS_BYTES, more) == 0 && more[1] == counts[1] + 2 * 2,
-           "each letter that is not admitted adds a clause for each place");
 }
 
 static void spelling(void) {
@@ -597,7 +524,7 @@ static void fits(const char *name, int64_t answer, int64_t length) {
 
 /* The largest sheets have TPL_SHEET_MOST bytes; a byte more is refused. */
 static void largest(void) {
-    static const char name[] = "tests/clauses.d/largest_with_kinds.sheet";
+    static const char name[] = "tests/clauses.d/largest_sheet.sheet";
     uint8_t large[TPL_SHEET_MOST + 1];
     uint64_t counts[4] = { 0, 0, 0, 0 };
     memset(large, 0, sizeof large);
@@ -630,8 +557,6 @@ int main(void) {
     reading();
     checking();
     telling_why();
-    refusing_kinds();
-    keeping_kinds();
     spelling();
     searching();
     counting();
@@ -644,16 +569,13 @@ int main(void) {
     largest();
     fits("tests/clauses.d/largest_sheet.sheet", TPL_APART, 0);
     fits("tests/clauses.d/most_clauses.sheet", TPL_APART, 0);
-    fits("tests/clauses.d/largest_with_kinds.sheet", TPL_APART, 0);
-    fits("tests/clauses.d/most_clauses_with_kinds.sheet", TPL_APART, 0);
-    fits("tests/search.d/largest_with_kinds.sheet", TPL_CLASH, 12);
     fits("tests/search.d/largest_sheet.sheet", TPL_CLASH, 12);
     fits("tests/search.d/all_full.sheet", TPL_CLASH, TPL_TEXT_MOST);
     fullest_reply();
     if (!all_passed) {
         return 1;
     }
-    puts("C header: the ten calls answer as they must on P, on kinds and on a small book with hours, its constants are the documents' numbers, and buffers of "
-         "its sizes are enough");
+    puts("C header: the ten calls answer as they must on P and on a small book with hours, its constants are the documents' numbers, and buffers of its "
+         "sizes are enough");
     return 0;
 }

@@ -199,7 +199,7 @@ const VALUES: &[(u8, &[u8])] = &[
     (39, b"v -1 2 3 4 5 6 0\n"),
 ];
 
-const KNOWN: [Known; 13] = [
+const KNOWN: [Known; 9] = [
     Known {
         sheet: sheets::P,
         filling: IS_A,
@@ -301,53 +301,6 @@ const KNOWN: [Known; 13] = [
             (36, b"v 2 2 0\n"),
             (39, b"v 0\n"),
             (39, b"v 1 2 0\n"),
-        ],
-    },
-    // P as version 2, with everything admitted, with least length 1, and with no letter.
-    Known {
-        sheet: sheets::P_2,
-        filling: IS_A,
-        start: STARTED,
-        texts: VALUES,
-    },
-    Known {
-        sheet: b"TPL\0\x02\x01\x01\x01\0A\x01\x01\x01\x01\x01\x80\0",
-        filling: IS_A,
-        start: STARTED,
-        texts: VALUES,
-    },
-    Known {
-        sheet: b"TPL\0\x02\x01\x01\x01\0A\x01\0\0\x01\x01\x80\0",
-        filling: b"",
-        start: STARTED,
-        texts: &[
-            (35, b"v 1 7 0\n"),
-            (37, b"v 1 2 0\n"),
-            (37, b"v 0\n"),
-            (39, b"v 1 0\n"),
-            (39, b"v 2 0\n"),
-        ],
-    },
-    // X and Y of limits 2 and 1 are in no template: X has at least one letter, of B alone, and Y has none. X
-    // has the variables 1 to 6, Y has 7 to 9, and S has 10.
-    Known {
-        sheet: b"TPL\0\x02\x02\x02\x01\0AB\x02\x01\x01\x02\0\0\0\0",
-        filling: b"\x01\x01\xFF\xFF\xFF\xFF\xFF\xFF\xFF\0\xFF\xFF\xFF\xFF\xFF\xFF\xFF\xFF",
-        start: STARTED,
-        texts: &[
-            (0, b"v 2 6 9 0\n"),
-            (0, b"v -1 2 -3 -4 -5 6 -7 -8 9 -10 0\n"),
-            (35, b"v 2 6 9 11 0\n"),
-            // Domains come after what is wrong with places, in every field.
-            (37, b"v 1 6 0\n"),
-            (37, b"v 3 6 8 9 0\n"),
-            (38, b"v 3 4 7 0\n"),
-            (38, b"v 3 5 9 0\n"),
-            // X is empty, A, BA; Y is B.
-            (39, b"v 3 6 9 0\n"),
-            (39, b"v 1 6 9 0\n"),
-            (39, b"v 2 4 9 0\n"),
-            (39, b"v 2 6 8 0\n"),
         ],
     },
     // P with a byte left over.

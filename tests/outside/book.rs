@@ -142,7 +142,6 @@ impl Book {
         Sheet {
             letters: self.letters.clone(),
             limits: [&left.limits[..], &right.limits].concat(),
-            domains: None,
             pairs: vec![Pair {
                 left: left.symbols.clone(),
                 right: right.symbols.iter().map(moved).collect(),

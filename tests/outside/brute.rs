@@ -1,13 +1,13 @@
 //! Compares the library with itself: a filling must check as a clash just when the library spells
-//! the same text on both sides of each pair, the rules hold and the domains are kept; and where it does not,
-//! what is said to be first against it must fit the texts that the library spells, or the rules, or the
-//! domains. Every filling of small sheets is tried. The plain reader and the plain speller have no say in the answers.
+//! the same text on both sides of each pair and the rules hold; and where it does not, what is said to
+//! be first against it must fit the texts that the library spells, or the rules. Every filling of small
+//! sheets is tried. The plain reader and the plain speller have no say in the answers.
 
 use crate::engine::{self, Outcome, WHY_BEFORE};
 use crate::fillings;
 use crate::planted;
 use crate::random::Random;
-use crate::reader::{Domain, Rule, Sheet};
+use crate::reader::{Rule, Sheet};
 use crate::report::{require, Hex};
 use crate::sheets;
 use crate::speller::{Filling, Spelling, LEFT, RIGHT};
@@ -48,7 +48,7 @@ fn small_sheet(random: &mut Random) -> Sheet {
     sheet
 }
 
-/// Holds what checking answers to what spelling, the rules and the domains say, and names it.
+/// Holds what checking answers to what spelling and the rules say, and names it.
 fn compare(sheet: &Sheet, bytes: &[u8], filling: &Filling) -> &'static str {
     let encoded = fillings::encode(filling);
     let pairs = 0..sheet.pairs.len() as u64;
@@ -59,20 +59,15 @@ fn compare(sheet: &Sheet, bytes: &[u8], filling: &Filling) -> &'static str {
         .iter()
         .map(|rule| holds(rule, filling))
         .collect();
-    let kept = filling.iter().enumerate();
-    let kept: Vec<bool> = kept
-        .map(|(field, text)| keeps(sheet.domain(field), text))
-        .collect();
     let checked = engine::check(bytes, &encoded);
     require(
-        fits(&checked, &texts, &holding, &kept) && checked.rest_unchanged,
+        fits(&checked, &texts, &holding) && checked.rest_unchanged,
         "checking does not fit what the library spells",
         &[
             ("sheet", &Hex(bytes)),
             ("filling", &Hex(&encoded)),
             ("texts", &format!("{texts:?}")),
             ("rules hold", &format!("{holding:?}")),
-            ("domains are kept", &format!("{kept:?}")),
             ("checked", &checked),
         ],
     );
@@ -80,12 +75,12 @@ fn compare(sheet: &Sheet, bytes: &[u8], filling: &Filling) -> &'static str {
     kind.map_or("clash", |kind| whys::KINDS[kind])
 }
 
-/// Does what checking answers fit the texts of each pair, which rules hold and which domains are kept?
-fn fits(checked: &Outcome<u64>, texts: &[[Vec<u8>; 2]], holding: &[bool], kept: &[bool]) -> bool {
+/// Does what checking answers fit the texts of each pair, and which rules hold?
+fn fits(checked: &Outcome<u64>, texts: &[[Vec<u8>; 2]], holding: &[bool]) -> bool {
     let same = |pairs: &[[Vec<u8>; 2]]| pairs.iter().all(|[left, right]| left == right);
-    let hold = |some: &[bool]| some.iter().all(|&holds| holds);
+    let hold = |rules: &[bool]| rules.iter().all(|&holds| holds);
     match (checked.status, &checked.lent[..]) {
-        (1, untouched) => same(texts) && hold(holding) && hold(kept) && untouched == WHY_BEFORE,
+        (1, untouched) => same(texts) && hold(holding) && untouched == WHY_BEFORE,
         (0, &[1, pair, agreeing, side, length]) => {
             let pair = pair as usize;
             let differing = texts.get(pair);
@@ -95,10 +90,6 @@ fn fits(checked: &Outcome<u64>, texts: &[[Vec<u8>; 2]], holding: &[bool], kept: 
         (0, &[2, rule, 0, 0, 0]) => {
             let rule = rule as usize;
             same(texts) && holding.get(rule) == Some(&false) && hold(&holding[..rule])
-        }
-        (0, &[3, field, 0, 0, 0]) => {
-            let field = field as usize;
-            same(texts) && hold(holding) && kept.get(field) == Some(&false) && hold(&kept[..field])
         }
         _ => false,
     }
@@ -121,12 +112,6 @@ fn spell(sheet: &[u8], pair: u64, side: u64, filling: &[u8]) -> Vec<u8> {
     );
     spelled.lent.truncate(spelled.status as usize);
     spelled.lent
-}
-
-/// Has a text at least so many letters, and no letter whose bit is not in the set?
-fn keeps(domain: Domain, text: &[u8]) -> bool {
-    let letters = text.iter().fold(0, |set, &letter| set | 1u8 << letter);
-    text.len() >= domain.least.into() && letters & !domain.set == 0
 }
 
 fn holds(rule: &Rule, filling: &Filling) -> bool {

@@ -1,7 +1,6 @@
 //! The parts of the test that check fillings and spell templates.
 
 use crate::changes::each_value_of_each_byte;
-use crate::domains;
 use crate::fillings;
 use crate::planted;
 use crate::random::Random;
@@ -13,9 +12,6 @@ use crate::test::Test;
 const GENERATED: usize = 270_000;
 const AGAINST: usize = 100_000;
 const LONG_PERCENT: usize = 30;
-/// How often only domains are made to break, and how often each field's after the first.
-const ONLY_DOMAINS_PERCENT: usize = 35;
-const LATER_PERCENT: usize = 30;
 const PLANTED_PERCENT: usize = 80;
 const SPOILED_PERCENT: usize = 35;
 const DAMAGED_SHEETS_PERCENT: usize = 20;
@@ -27,7 +23,7 @@ pub fn run(test: &mut Test) {
     test.part("fillings, one byte or the size changed", small_changes);
     test.part("generated fillings", generated);
     test.part(
-        "fillings with pairs that differ, rules and domains that break",
+        "fillings with pairs that differ and rules that break",
         against,
     );
 }
@@ -57,7 +53,7 @@ fn rooms(text: usize) -> [usize; 6] {
 
 /// Each pair number with each side and each buffer.
 fn all_numbers(test: &mut Test) {
-    for sheet in [sheets::P, sheets::MIDDLE, sheets::MIDDLE_2] {
+    for sheet in [sheets::P, sheets::MIDDLE] {
         let accepted = reader::accepted(sheet);
         let filling = fillings::encode(&fillings::full(&mut test.random, &accepted));
         for pair in pair_numbers(accepted.pairs.len()) {
@@ -90,8 +86,7 @@ fn text_length(asked: Spelling) -> usize {
 /// byte, and each size up to ten bytes too many.
 fn small_changes(test: &mut Test) {
     let largest = sheets::largest(&mut test.random);
-    let middle = [sheets::MIDDLE, sheets::MIDDLE_2].map(reader::accepted);
-    for sheet in middle.into_iter().chain([largest]) {
+    for sheet in [reader::accepted(sheets::MIDDLE), largest] {
         let empty: Filling = vec![Vec::new(); sheet.limits.len()];
         let full = fillings::full(&mut test.random, &sheet);
         let legal = fillings::legal(&mut test.random, &sheet);
@@ -146,7 +141,7 @@ fn sheet_and_filling(random: &mut Random) -> (Sheet, Filling) {
     (sheet, filling)
 }
 
-/// Fillings that clash but for some pairs, some rules and some domains, of which any may be the first.
+/// Fillings that clash but for some pairs and some rules, of which any may be the first.
 fn against(test: &mut Test) {
     for _ in 0..AGAINST {
         let random = &mut test.random;
@@ -155,11 +150,7 @@ fn against(test: &mut Test) {
         } else {
             planted::clashing(random, sheets::valid)
         };
-        if sheet.domains.is_some() && random.chance(ONLY_DOMAINS_PERCENT) {
-            domains::break_some(random, &mut sheet, &filling, LATER_PERCENT);
-        } else {
-            planted::differ(random, &mut sheet, &filling);
-        }
+        planted::differ(random, &mut sheet, &filling);
         test.check(&sheets::encode(&sheet), &fillings::encode(&filling));
     }
 }

@@ -1,8 +1,8 @@
-//! A plain search for the first clash, written from document 01 ("The sheet"), document 02, No. 7, and the
-//! order of clashes alone: it goes through the lengths of all fields in that order, and at each makes one
-//! group of the places that must hold the same letter. It knows nothing of the library.
+//! A plain search for the first clash, written from document 01 ("The sheet") and the order of
+//! clashes alone: it goes through the lengths of all fields in that order, and at each makes one group
+//! of the places that must hold the same letter. It knows nothing of the library.
 
-use crate::reader::{Domain, Sheet, Symbol};
+use crate::reader::{Sheet, Symbol};
 use crate::sheets;
 use crate::speller::Filling;
 
@@ -23,8 +23,7 @@ fn of_total(sheet: &Sheet, lengths: &mut Vec<usize>, others: usize) -> Option<Fi
         Some(&limit) => usize::from(limit),
         None => return of_lengths(sheet, lengths),
     };
-    let least = usize::from(sheet.domain(lengths.len()).least);
-    for length in least..=limit.min(others) {
+    for length in 0..=limit.min(others) {
         lengths.push(length);
         let found = of_total(sheet, lengths, others - length);
         lengths.pop();
@@ -35,8 +34,8 @@ fn of_total(sheet: &Sheet, lengths: &mut Vec<usize>, others: usize) -> Option<Fi
     None
 }
 
-/// The first clash of these lengths, which the domains allow: a place that is in a group with a letter holds
-/// that letter, and one that is not holds the lowest letter that all places of its group admit.
+/// The first clash of these lengths: a place that is in a group with a letter holds that letter, and
+/// all others hold letter 0.
 pub fn of_lengths(sheet: &Sheet, lengths: &[usize]) -> Option<Filling> {
     let rules_hold = sheet.rules.iter().all(|rule| {
         let terms = rule.coefficients.iter().zip(lengths);
@@ -64,8 +63,14 @@ pub fn of_lengths(sheet: &Sheet, lengths: &[usize]) -> Option<Filling> {
     if (0..l).any(|letter| groups.first(letter) != letter) {
         return None;
     }
-    let held = groups.held(sheet)?;
-    let letter = |place| held[groups.first(place)];
+    let letter = |place| {
+        let first = groups.first(place);
+        if first < l {
+            first as u8
+        } else {
+            0
+        }
+    };
     let fields = groups.starts.iter().zip(lengths);
     Some(
         fields
@@ -130,23 +135,6 @@ impl Groups<'_> {
             member = self.lower[member];
         }
         member
-    }
-
-    /// What each group holds, by its first member: the lowest letter that all of it admit. None if a group
-    /// has no such letter.
-    fn held(&self, sheet: &Sheet) -> Option<Vec<u8>> {
-        let l = sheet.letters.len();
-        let mut admitted = vec![Domain::all(l).set; self.lower.len()];
-        for (letter, set) in admitted[..l].iter_mut().enumerate() {
-            *set = 1 << letter;
-        }
-        for (field, (&start, &length)) in self.starts.iter().zip(self.lengths).enumerate() {
-            for place in start..start + length {
-                admitted[self.first(place)] &= sheet.domain(field).set;
-            }
-        }
-        let lowest = |&set: &u8| (set != 0).then_some(set.trailing_zeros() as u8);
-        admitted.iter().map(lowest).collect()
     }
 
     /// Makes one group of two.

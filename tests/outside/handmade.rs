@@ -1,10 +1,9 @@
-//! Hand-made fillings with the whole answer of a check, worked out from documents 01 and 02 (Nos. 5 and 7)
+//! Hand-made fillings with the whole answer of a check, worked out from documents 01 and 02 (No. 5)
 //! apart from the code: for texts that are spelled in several ways, and for whole sheets.
 
-use crate::domains;
 use crate::examples::{self, require_known, Texts, Why, CLASH};
 use crate::fillings;
-use crate::reader::{Domain, Pair, Rule, Sheet, Symbol, Template};
+use crate::reader::{Pair, Rule, Sheet, Symbol, Template};
 use crate::sheets;
 use crate::speller::{Filling, LEFT, RIGHT};
 use crate::test::Test;
@@ -179,37 +178,21 @@ impl Way {
         Sheet {
             letters: LETTERS.to_vec(),
             limits: self.limits.clone(),
-            domains: None,
             pairs: known.0.iter().map(pair).collect(),
             rules: known.1.chars().map(rule).collect(),
         }
     }
 }
 
-/// Texts, spelled in each way, have the answers that are known; also where domains admit everything, and
-/// where they admit just these texts.
+/// Texts, spelled in each way, have the answers that are known.
 fn texts(test: &mut Test) {
     for known in &KNOWN {
         for way in ways(known) {
-            let mut sheet = way.sheet(known);
-            let all = domains::all(&sheet.limits, LETTERS.len());
-            let just = way.filling.iter().map(|text| just(text)).collect();
-            for domains in [None, Some(all), Some(just)] {
-                sheet.domains = domains;
-                let bytes = sheets::encode(&sheet);
-                let filling = fillings::encode(&way.filling);
-                let name = format!("{:?}, rules {:?}", known.0, known.1);
-                require_known(test, &name, &bytes, &filling, known.2);
-            }
+            let sheet = sheets::encode(&way.sheet(known));
+            let filling = fillings::encode(&way.filling);
+            let name = format!("{:?}, rules {:?}", known.0, known.1);
+            require_known(test, &name, &sheet, &filling, known.2);
         }
-    }
-}
-
-/// The domain of texts that are as long as this one at least, and have no other letters.
-fn just(text: &[u8]) -> Domain {
-    Domain {
-        least: text.len() as u8,
-        set: text.iter().fold(0, |set, letter| set | 1 << letter),
     }
 }
 
@@ -229,22 +212,8 @@ const RULED: &[u8] = b"TPL\0\x01\x02\x02\x01\x02ab\x04\x04\x02\x02\0\x80\x81\x01
 const FOUR: &[u8] = b"TPL\0\x01\x02\x02\x04\0ab\x02\x02\x01\x01\x80\x81\
     \x02\x02\x80\x81\x81\x80\0\0\x02\x04\x80\x80\0\x01\0\x01";
 
-/// With letters a, b and c and fields X, Y and Z of limits 3, 2 and 2: X has at least two letters, a or b; Y
-/// any; Z none but c. The pairs are X and X, and nothing and nothing; all together are to be no longer than 5.
-const DOMAINS: &[u8] = b"TPL\0\x02\x03\x03\x02\x01abc\x03\x02\x02\x02\x03\0\x07\0\x04\
-    \x01\x01\x80\x80\0\0\x01\x01\x01\0\x05";
-
-/// The same domains with the pair X and Y, and no rule.
-const DOMAINS_DIFFER: &[u8] = b"TPL\0\x02\x03\x03\x01\0abc\x03\x02\x02\x02\x03\0\x07\0\x04\
-    \x01\x01\x80\x81";
-
-/// With letters a and b and fields X and Y of limits 1 and 0, in no template: X has no letter, and must have
-/// one; Y has no letter. Then with no least length.
-const NOTHING: &[u8] = b"TPL\0\x02\x02\x02\x01\0ab\x01\0\x01\0\0\0\0\0";
-const EMPTY: &[u8] = b"TPL\0\x02\x02\x02\x01\0ab\x01\0\0\0\0\0\0\0";
-
 /// A sheet, the texts of its fields, and what is against a clash.
-const SHEETS: [(&[u8], Texts, Why); 46] = [
+const SHEETS: [(&[u8], Texts, Why); 22] = [
     (LONG, &["aaaaaaaa", "aaaaaaaa"], CLASH),
     (LONG, &["aaaaaaaa", "aaaaaaab"], Some([1, 0, 23, LEFT, 1])),
     (LONG, &["aaaaaaaa", "aaaaaaa"], Some([1, 0, 23, LEFT, 1])),
@@ -268,37 +237,6 @@ const SHEETS: [(&[u8], Texts, Why); 46] = [
     (FOUR, &["a", "ab"], Some([1, 0, 1, RIGHT, 1])),
     (FOUR, &["b", "b"], Some([1, 3, 0, LEFT, 2])),
     (FOUR, &["", ""], Some([1, 3, 0, RIGHT, 4])),
-    // All domains are kept: by letters alone and by lengths that are just long enough.
-    (DOMAINS, &["ab", "", ""], CLASH),
-    (DOMAINS, &["aa", "c", "cc"], CLASH),
-    (DOMAINS, &["bbb", "ca", ""], CLASH),
-    (DOMAINS, &["aba", "", "c"], CLASH),
-    // X is too short, though its letters are admitted, or are not.
-    (DOMAINS, &["", "", ""], Some([3, 0, 0, 0, 0])),
-    (DOMAINS, &["a", "ab", "c"], Some([3, 0, 0, 0, 0])),
-    (DOMAINS, &["c", "ab", "c"], Some([3, 0, 0, 0, 0])),
-    // It is long enough, and one of its letters is not admitted: the first, one between, the last.
-    (DOMAINS, &["cab", "", ""], Some([3, 0, 0, 0, 0])),
-    (DOMAINS, &["acb", "", ""], Some([3, 0, 0, 0, 0])),
-    (DOMAINS, &["abc", "", ""], Some([3, 0, 0, 0, 0])),
-    // Only Z breaks its domain; then X too, which is told.
-    (DOMAINS, &["ab", "c", "a"], Some([3, 2, 0, 0, 0])),
-    (DOMAINS, &["ba", "", "cb"], Some([3, 2, 0, 0, 0])),
-    (DOMAINS, &["bac", "", "cb"], Some([3, 0, 0, 0, 0])),
-    // A rule comes before every domain.
-    (DOMAINS, &["aba", "ab", "c"], Some([2, 0, 0, 0, 0])),
-    (DOMAINS, &["acc", "ab", "ab"], Some([2, 0, 0, 0, 0])),
-    // And so does a pair.
-    (DOMAINS_DIFFER, &["ab", "ab", ""], CLASH),
-    (DOMAINS_DIFFER, &["ab", "a", ""], Some([1, 0, 1, LEFT, 1])),
-    (DOMAINS_DIFFER, &["c", "ca", "a"], Some([1, 0, 1, RIGHT, 1])),
-    (DOMAINS_DIFFER, &["cc", "cc", ""], Some([3, 0, 0, 0, 0])),
-    (DOMAINS_DIFFER, &["ab", "ab", "b"], Some([3, 2, 0, 0, 0])),
-    // A field that no template has is judged too. One of no letter can only be empty.
-    (NOTHING, &["", ""], Some([3, 0, 0, 0, 0])),
-    (NOTHING, &["a", ""], Some([3, 0, 0, 0, 0])),
-    (EMPTY, &["", ""], CLASH),
-    (EMPTY, &["b", ""], Some([3, 0, 0, 0, 0])),
 ];
 
 /// Whole sheets have the answers that are known.

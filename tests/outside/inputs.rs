@@ -4,7 +4,6 @@
 use crate::assignment::Numbered;
 use crate::book::{self, MOST_LIST_BYTES, MOST_TEMPLATES};
 use crate::books;
-use crate::domains;
 use crate::fillings;
 use crate::planted;
 use crate::random::Random;
@@ -249,7 +248,7 @@ fn room(random: &mut Random) -> usize {
 /// Changes one to three things of an input, some to what they are in another one.
 pub fn change(random: &mut Random, input: &mut Input, other: &Input) {
     for _ in 0..random.within(1, 3) {
-        match random.below(14) {
+        match random.below(13) {
             0 | 1 => change_part(random, &mut input.sheet, &other.sheet),
             2 => refill(random, input),
             3 => change_bytes(random, &mut input.filling),
@@ -267,7 +266,6 @@ pub fn change(random: &mut Random, input: &mut Input, other: &Input) {
                 input.book = other.book.clone();
                 input.hours = other.hours.clone();
             }
-            12 => change_domains(random, &mut input.sheet),
             _ => renumber(random, input),
         }
     }
@@ -297,18 +295,6 @@ fn change_part(random: &mut Random, bytes: &mut Vec<u8>, other: &[u8]) {
         _ => sheets::damage(random, bytes),
     }
     bytes.truncate(LONGEST);
-}
-
-/// Changes the domains of a sheet, if it is accepted, or gives it other ones, or none.
-fn change_domains(random: &mut Random, bytes: &mut Vec<u8>) {
-    if let Ok(mut sheet) = reader::read(bytes) {
-        if sheet.domains.is_some() && random.chance(60) {
-            domains::change(random, &mut sheet);
-        } else {
-            sheet.domains = domains::any(random, &sheet.limits, sheet.letters.len());
-        }
-        *bytes = sheets::encode(&sheet);
-    }
 }
 
 /// Gives an input a filling of its sheet and a reply to it, if its sheet has fillings.

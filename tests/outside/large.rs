@@ -4,7 +4,6 @@
 //! are asked as well whether there is one at sooner lengths.
 
 use crate::assignment::{self, Numbered};
-use crate::domains;
 use crate::first;
 use crate::hard;
 use crate::late::{self, Family, FAMILIES};
@@ -208,8 +207,8 @@ impl Large<'_> {
 }
 
 /// Sheets that have together just what in a sheet clashes sooner than at these lengths: at a smaller
-/// total, or at the same with a shorter field 0, or field 1 and so on, if a shorter one is admitted. None
-/// where everything is empty, and where a sheet has no room for a rule.
+/// total, or at the same with a shorter field 0, or field 1 and so on. None where everything is
+/// empty, and where a sheet has no room for a rule.
 fn sooner(sheet: &Sheet, lengths: &[u8]) -> Vec<Sheet> {
     let total = sheets::total(lengths) as i16;
     if total == 0 || sheet.rules.len() == MOST_RULES {
@@ -226,8 +225,7 @@ fn sooner(sheet: &Sheet, lengths: &[u8]) -> Vec<Sheet> {
         sheet
     };
     let mut all = vec![within(sheet.limits.clone(), total - 1)];
-    let is_shortened = |&field: &usize| lengths[field] > sheet.domain(field).least;
-    for field in (0..lengths.len()).filter(is_shortened) {
+    for field in (0..lengths.len()).filter(|&field| lengths[field] > 0) {
         let mut limits = sheet.limits.clone();
         limits[..field].copy_from_slice(&lengths[..field]);
         limits[field] = lengths[field] - 1;
@@ -329,11 +327,10 @@ fn plant(random: &mut Random, sheet: &mut Sheet) {
 }
 
 /// Makes the right templates the left ones in another order. Templates are short, pairs and rules
-/// few, so that lengths alone exclude little, and so do domains.
+/// few, so that lengths alone exclude little.
 fn shuffle(random: &mut Random, sheet: &mut Sheet) {
     sheet.pairs.truncate(random.within(1, 2));
     sheet.rules.truncate(random.within(0, 2));
-    sheet.domains = domains::mild(random, &sheet.limits, sheet.letters.len());
     for pair in &mut sheet.pairs {
         pair.left.truncate(random.within(3, 8));
     }

@@ -2,7 +2,6 @@
 //! they meet a place that is open, or meet one at once at both ends; and what keeps a sheet apart
 //! stands in the middle, in several pairs together, or in the count of a letter.
 
-use crate::domains;
 use crate::planted;
 use crate::random::Random;
 use crate::reader::*;
@@ -215,16 +214,13 @@ fn surplus(pair: &Pair) -> [i32; SYMBOLS] {
     surplus
 }
 
-/// Letters, of which there are few in most sheets, and `v` fields with limits in this range and with domains
-/// that do not exclude much.
+/// Letters, of which there are few in most sheets, and `v` fields with limits in this range.
 fn bare(random: &mut Random, v: usize, limits: [usize; 2]) -> Sheet {
     let l = random.one_of(&[2, 2, 3, MOST_LETTERS]);
     let [least, most] = limits;
-    let limits: Vec<u8> = (0..v).map(|_| random.within(least, most) as u8).collect();
     Sheet {
         letters: (b'a'..).take(l).collect(),
-        domains: domains::mild(random, &limits, l),
-        limits,
+        limits: (0..v).map(|_| random.within(least, most) as u8).collect(),
         pairs: Vec::new(),
         rules: Vec::new(),
     }

@@ -9,14 +9,13 @@ use std::ops::RangeInclusive;
 /// The shortest line is a clause of one literal of one digit, as in `3 0`.
 pub const SHORTEST_LINE: i64 = 4;
 pub const LONGEST_LINE: usize = writing::ROOMY;
-/// The smallest file is `p cnf 1 1` and `1 0`. None has more than 48,033 lines of 38 bytes each; that of the
-/// most clauses has 923,477 bytes.
+/// The smallest file is `p cnf 1 1` and `1 0`. None has more than 47,601 lines of 38 bytes each, which is
+/// proved; that of the most clauses has 920,561 bytes.
 const SMALLEST_FILE: i64 = 14;
-const LARGEST_FILE: i64 = 48_033 * 38;
+const LARGEST_FILE: i64 = 47_601 * 38;
 pub const LONGEST_TEXT: usize = 24;
-/// The refusals of a sheet, which every call that is given one has, and those of its domains.
+/// The refusals of a sheet, which every call that is given one has.
 const OF_SHEET: RangeInclusive<i64> = 1..=15;
-const OF_DOMAINS: RangeInclusive<i64> = 46..=47;
 
 /// What one of the calls may return.
 struct Listed {
@@ -48,21 +47,21 @@ static LISTED: [Listed; 10] = [
     Listed {
         name: "tpl_read",
         answers: 0..=0,
-        refusals: &[OF_SHEET, OF_DOMAINS],
+        refusals: &[OF_SHEET],
         kind: |_| "accepted",
         kinds: &["accepted"],
     },
     Listed {
         name: "tpl_check",
         answers: 0..=1,
-        refusals: &[OF_SHEET, OF_DOMAINS, 20..=23],
+        refusals: &[OF_SHEET, 20..=23],
         kind: |status| ["no clash", "clash"][status as usize],
         kinds: &["clash", "no clash"],
     },
     Listed {
         name: "tpl_spell",
         answers: 0..=LONGEST_TEXT as i64,
-        refusals: &[OF_SHEET, OF_DOMAINS, 20..=26],
+        refusals: &[OF_SHEET, 20..=26],
         kind: |status| match status {
             0 => "empty",
             1..=23 => "1 to 23",
@@ -73,21 +72,21 @@ static LISTED: [Listed; 10] = [
     Listed {
         name: "tpl_search",
         answers: 0..=1,
-        refusals: &[OF_SHEET, OF_DOMAINS, 27..=27],
+        refusals: &[OF_SHEET, 27..=27],
         kind: |status| ["apart", "clash"][status as usize],
         kinds: &["clash", "apart"],
     },
     Listed {
         name: "tpl_count",
         answers: 0..=0,
-        refusals: &[OF_SHEET, OF_DOMAINS],
+        refusals: &[OF_SHEET],
         kind: |_| "counted",
         kinds: &["counted"],
     },
     Listed {
         name: "tpl_line",
         answers: SHORTEST_LINE..=LONGEST_LINE as i64,
-        refusals: &[OF_SHEET, OF_DOMAINS, 28..=29],
+        refusals: &[OF_SHEET, 28..=29],
         kind: |status| match status {
             0..=9 => "4 to 9",
             10..=24 => "10 to 24",
@@ -98,14 +97,14 @@ static LISTED: [Listed; 10] = [
     Listed {
         name: "tpl_file",
         answers: SMALLEST_FILE..=LARGEST_FILE,
-        refusals: &[OF_SHEET, OF_DOMAINS, 29..=29],
+        refusals: &[OF_SHEET, 29..=29],
         kind: file_kind,
         kinds: &FILE_KINDS,
     },
     Listed {
         name: "tpl_reply",
         answers: 0..=0,
-        refusals: &[OF_SHEET, OF_DOMAINS, 27..=27, 30..=39],
+        refusals: &[OF_SHEET, 27..=27, 30..=39],
         kind: |_| "accepted",
         kinds: &["accepted"],
     },
@@ -161,8 +160,7 @@ pub fn kept_for(call: Call, status: i64) -> i64 {
 
 /// Is this a refusal of the sheet?
 pub fn is_of_sheet(status: i64) -> bool {
-    let refusal = status.wrapping_neg();
-    OF_SHEET.contains(&refusal) || OF_DOMAINS.contains(&refusal)
+    OF_SHEET.contains(&status.wrapping_neg())
 }
 
 /// The call's name in the header.

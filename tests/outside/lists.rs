@@ -397,7 +397,6 @@ fn texts(book: &Book, own: &Own) -> HashSet<Vec<u8>> {
     let fields = Sheet {
         letters: book.letters.clone(),
         limits: own.limits.clone(),
-        domains: None,
         pairs: Vec::new(),
         rules: Vec::new(),
     };

@@ -27,7 +27,6 @@ mod calls;
 mod changes;
 mod checking;
 mod corpus;
-mod domains;
 mod ends;
 mod engine;
 mod examples;
@@ -42,9 +41,6 @@ mod handmade;
 mod hard;
 mod hours;
 mod inputs;
-#[path = "../../bindings/rust/src/kind.rs"]
-#[allow(dead_code)]
-mod kind;
 mod large;
 mod late;
 mod lent;
@@ -85,15 +81,10 @@ mod ticking;
 mod ticks;
 mod timed;
 mod turn;
-mod versions;
 mod whys;
 mod worked;
 mod writer;
 mod writing;
-
-// What is the tool's own here takes the kind of a field from the bindings.
-extern crate self as lunthegyr;
-use kind::Kind;
 
 use solver::Solver;
 use std::io::{self, Read};
@@ -165,7 +156,6 @@ fn test_all() {
     handmade::run(&mut test);
     checking::run(&mut test);
     brute::run(&mut test.random);
-    versions::run(&mut test.random);
     writing::run(&mut test);
     powers::run(&mut test);
     ticking::run(&mut test.random);

@@ -1,68 +1,12 @@
-//! The parts of the test that hold the order of refusals to documents 01 and 02: every choice of faults at
-//! once, answered by the number of the first; and of a sheet of version 2 every choice of faulty bytes,
-//! with the end cut off anywhere.
+//! The part of the test that holds the order of refusals to document 01: every choice of faults at
+//! once, answered by the number of the first.
 
-use crate::reader::{self, HEADER_BYTES};
-use crate::report::{require, Hex};
+use crate::report::require;
 use crate::speller::{self, Spelling};
 use crate::test::Test;
 
 pub fn run(test: &mut Test) {
     test.part("several faults at once", several_faults);
-    test.part("several faulty bytes of a sheet, cut", faulty_bytes);
-}
-
-/// Letters A and B, fields X, Y and Z of limits 2, 0 and 1; X has at least one letter, Y none, Z none but B;
-/// the pair AX and Z, and a rule.
-const WITH_DOMAINS: &[u8] = b"TPL\0\x02\x02\x03\x01\x01AB\x02\0\x01\x01\x03\0\0\0\x02\
-    \x02\x01\0\x80\x82\x01\0\0\0\x09";
-
-/// A faulty byte: its offset, its value, and the refusal's number.
-const FAULTY_BYTES: [(usize, u8, u8); 12] = [
-    (10, b'A', 10),
-    (13, 9, 11),
-    // The domains: a least length and a set of each field.
-    (14, 3, 46),
-    (15, 4, 47),
-    (16, 1, 46),
-    (17, 0x80, 47),
-    (18, 2, 46),
-    (19, 5, 47),
-    // The symbol counts, a symbol, a coefficient.
-    (20, 13, 12),
-    (21, 13, 12),
-    (24, 0x83, 13),
-    (25, 5, 15),
-];
-
-/// Every choice of faulty bytes, cut at each place from the letters on, and whole with a byte more: the first
-/// fault that is left decides, else 8 where bytes are missing, else 9.
-fn faulty_bytes(test: &mut Test) {
-    let whole = WITH_DOMAINS.len();
-    for chosen in choices(&FAULTY_BYTES) {
-        let mut sheet = WITH_DOMAINS.to_vec();
-        for &&(offset, value, _) in &chosen {
-            sheet[offset] = value;
-        }
-        sheet.push(0);
-        for length in HEADER_BYTES..=sheet.len() {
-            let left = chosen.iter().find(|fault| fault.0 < length);
-            let due = match left {
-                Some(fault) => fault.2,
-                None if length < whole => 8,
-                None if length == whole => 0,
-                None => 9,
-            };
-            let cut = &sheet[..length];
-            test.read(cut);
-            let answer = reader::read(cut).map_or_else(|refusal| refusal as u8, |_| 0);
-            require(
-                answer == due,
-                "this is not the number of the first fault in byte order",
-                &[("sheet", &Hex(cut)), ("answer", &answer), ("due", &due)],
-            );
-        }
-    }
 }
 
 /// What is asked for, to be made faulty.

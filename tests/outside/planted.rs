@@ -1,7 +1,6 @@
 //! Changes sheets so that a filling clashes in them, or nearly does. Of sheets made by chance
 //! hardly any clash.
 
-use crate::domains;
 use crate::fillings;
 use crate::random::Random;
 use crate::reader::*;
@@ -9,15 +8,12 @@ use crate::speller::{self, Filling};
 
 /// How often a template is sought that spells a text, before the other template is taken for it.
 const TRIES: usize = 8;
-/// How often a pair of a sheet that clashes is made to differ, and how often a rule or a domain is made to
-/// break.
+/// How often a pair of a sheet that clashes is made to differ, and how often a rule is made to break.
 const DIFFERING_PERCENT: usize = 30;
 const BROKEN_PERCENT: usize = 35;
-/// How often a domain is spoiled, and not a template or a rule.
-const SPOILED_DOMAIN_PERCENT: usize = 30;
 
-/// Makes a filling clash: each right template comes to spell what the left one does, each rule to hold and
-/// each domain to be kept, often only just.
+/// Makes a filling clash: each right template comes to spell what the left one does, and each rule
+/// to hold, often only just.
 pub fn plant(random: &mut Random, sheet: &mut Sheet, filling: &Filling) {
     for pair in &mut sheet.pairs {
         let text = speller::text(&pair.left, filling);
@@ -28,7 +24,6 @@ pub fn plant(random: &mut Random, sheet: &mut Sheet, filling: &Filling) {
         }
     }
     plant_rules(random, sheet, filling);
-    domains::plant(random, sheet, filling);
 }
 
 /// A sheet that `make` makes, in which a filling was made to clash, and that filling.
@@ -58,7 +53,6 @@ pub fn plant_two(random: &mut Random, sheet: &mut Sheet, fillings: &[Filling; 2]
         }
     }
     plant_rules(random, sheet, &fillings[0]);
-    domains::plant(random, sheet, &fillings[0]);
 }
 
 /// Makes a filling of these lengths clash whose texts are parts of one repeating text. Each pair
@@ -82,7 +76,6 @@ pub fn plant_parts(random: &mut Random, sheet: &mut Sheet, lengths: &[u8]) -> Fi
         *pair = found.expect("two templates for the empty text");
     }
     plant_rules(random, sheet, &filling);
-    domains::plant(random, sheet, &filling);
     filling
 }
 
@@ -179,8 +172,8 @@ pub fn template(
     fits.then_some(template)
 }
 
-/// Makes any pairs of a sheet in which a filling clashes spell two texts, and any rules and domains break,
-/// often only just. One of the two templates comes to spell its text altered, or where none is soon found that
+/// Makes any pairs of a sheet in which a filling clashes spell two texts, and any rules break, often
+/// only just. One of the two templates comes to spell its text altered, or where none is soon found that
 /// does, nothing.
 pub fn differ(random: &mut Random, sheet: &mut Sheet, filling: &Filling) {
     let l = sheet.letters.len();
@@ -202,11 +195,6 @@ pub fn differ(random: &mut Random, sheet: &mut Sheet, filling: &Filling) {
             rule.limit = speller::sum(rule, filling) as i16 - below;
         }
     }
-    for (field, text) in filling.iter().enumerate() {
-        if random.chance(BROKEN_PERCENT) {
-            domains::break_one(random, sheet, field, text);
-        }
-    }
 }
 
 /// A text of `l` letters, cut short or made longer or with another letter, at any place or at the last.
@@ -224,11 +212,8 @@ fn altered(random: &mut Random, mut text: Vec<u8>, l: usize) -> Vec<u8> {
     text
 }
 
-/// Changes one template, one rule or one domain a little.
+/// Changes one template or one rule a little.
 pub fn spoil(random: &mut Random, sheet: &mut Sheet) {
-    if sheet.domains.is_some() && random.chance(SPOILED_DOMAIN_PERCENT) {
-        return domains::change(random, sheet);
-    }
     if !sheet.rules.is_empty() && random.chance(40) {
         let rule = random.below(sheet.rules.len());
         let limit = &mut sheet.rules[rule].limit;

@@ -41,8 +41,8 @@ fn letters(sheet: &Sheet, text: &[u8]) -> String {
 
 /// Reports that are known, each with its sheet: P, and P with a 16th byte; then sheets with several
 /// clashes, in which the first is decided by the total, by a length, by a letter, and by the length of
-/// a field that no template has; then sheets of version 2.
-const KNOWN: [(&[u8], &str); 13] = [
+/// a field that no template has.
+const KNOWN: [(&[u8], &str); 7] = [
     (sheets::P, "clash\nfield 0=A\npair 0=A\n"),
     (
         b"TPL\0\x01\x01\x01\x01\0A\x01\x01\x01\x80\0\0",
@@ -69,35 +69,6 @@ const KNOWN: [(&[u8], &str); 13] = [
     (
         b"TPL\0\x01\x01\x02\x01\x01A\x01\x01\x01\x01\x81\x81\xFF\xFF\xFF\xFF",
         "clash\nfield 0=\nfield 1=A\npair 0=A\n",
-    ),
-    // X and Y, where X has at least one letter, A or B, and Y has none but B; then X none but A.
-    (
-        b"TPL\0\x02\x02\x02\x01\0AB\x02\x02\x01\x03\0\x02\x01\x01\x80\x81",
-        "clash\nfield 0=B\nfield 1=B\npair 0=B\n",
-    ),
-    (
-        b"TPL\0\x02\x02\x02\x01\0AB\x02\x02\x01\x01\0\x02\x01\x01\x80\x81",
-        "apart\n",
-    ),
-    // X and Y, of one letter at least, of A and C and of B and C: the lowest letter of both is neither's own.
-    (
-        b"TPL\0\x02\x03\x02\x01\0ABC\x01\x01\x01\x05\x01\x06\x01\x01\x80\x81",
-        "clash\nfield 0=C\nfield 1=C\npair 0=C\n",
-    ),
-    // Nothing and nothing, with X in no template: two letters at least, none of them A.
-    (
-        b"TPL\0\x02\x03\x01\x01\0ABC\x03\x02\x06\0\0",
-        "clash\nfield 0=BB\npair 0=\n",
-    ),
-    // XY and AB, where X has at least one letter.
-    (
-        b"TPL\0\x02\x02\x02\x01\0AB\x02\x02\x01\x03\0\x03\x02\x02\x80\x81\0\x01",
-        "clash\nfield 0=A\nfield 1=B\npair 0=AB\n",
-    ),
-    // The same where Y has no letter.
-    (
-        b"TPL\0\x02\x02\x02\x01\0AB\x02\x02\x01\x03\0\0\x02\x02\x80\x81\0\x01",
-        "clash\nfield 0=AB\nfield 1=\npair 0=AB\n",
     ),
 ];
 

@@ -26,14 +26,12 @@ pub struct Tried {
 }
 
 /// How an answer comes about.
-pub const REASONS: [&str; 7] = [
-    "clash, rules and domains exclude nothing",
+pub const REASONS: [&str; 5] = [
+    "clash, the rules exclude nothing",
     "clash, the rules exclude some fillings",
-    "clash, the domains exclude some fillings",
     "apart, for one pair alone",
     "apart, for the pairs together",
     "apart, for the rules",
-    "apart, for the domains",
 ];
 
 /// What has to decide which clash is the first.
@@ -89,18 +87,14 @@ pub fn try_all(sheet: &Sheet) -> Tried {
     let judge = |filling| speller::judge(sheet, filling);
     let verdicts: Vec<Verdict> = fillings.iter().map(judge).collect();
     let clash = verdicts.contains(&Verdict::Clash);
-    let any = |is: fn(&Verdict) -> bool| verdicts.iter().any(is);
-    let by_rules = any(|verdict| matches!(verdict, Verdict::RuleBreaks(_)));
-    let by_domains = any(|verdict| matches!(verdict, Verdict::DomainBreaks(_)));
+    let breaks = |verdict: &Verdict| matches!(verdict, Verdict::RuleBreaks(_));
     let agrees = |pair: &Pair| fillings.iter().any(|filling| agrees(pair, filling));
-    let reason = match (clash, by_domains, by_rules) {
-        (true, true, _) => "clash, the domains exclude some fillings",
-        (true, false, true) => "clash, the rules exclude some fillings",
-        (true, false, false) => "clash, rules and domains exclude nothing",
-        (false, true, _) => "apart, for the domains",
-        (false, false, true) => "apart, for the rules",
-        (false, false, false) if sheet.pairs.iter().all(agrees) => "apart, for the pairs together",
-        (false, false, false) => "apart, for one pair alone",
+    let reason = match (clash, verdicts.iter().any(breaks)) {
+        (true, false) => "clash, the rules exclude nothing",
+        (true, true) => "clash, the rules exclude some fillings",
+        (false, true) => "apart, for the rules",
+        (false, false) if sheet.pairs.iter().all(agrees) => "apart, for the pairs together",
+        (false, false) => "apart, for one pair alone",
     };
     let judged = fillings.into_iter().zip(verdicts);
     let clashing = judged.filter(|(_, verdict)| *verdict == Verdict::Clash);

@@ -1,5 +1,5 @@
-//! A plain reader of sheets, versions 1 and 2, written from document 01 ("The sheet", "Reading") and
-//! document 02, No. 7, alone. The library's answers are compared with it. It knows nothing of the library.
+//! A plain reader of sheets, version 1, written from document 01 alone ("The sheet", "Reading").
+//! The library's answers are compared with it. It knows nothing of the library.
 
 use crate::refusal::Refusal;
 
@@ -8,18 +8,8 @@ use crate::refusal::Refusal;
 pub struct Sheet {
     pub letters: Vec<u8>,
     pub limits: Vec<u8>,
-    /// What each field admits, on a sheet of version 2. One of version 1 does not say it.
-    pub domains: Option<Vec<Domain>>,
     pub pairs: Vec<Pair>,
     pub rules: Vec<Rule>,
-}
-
-/// Which texts a field admits, by a least length and a set of letters with bit a for letter a. Document 02
-/// calls it a kind of field.
-#[derive(Clone, Copy, Debug, PartialEq)]
-pub struct Domain {
-    pub least: u8,
-    pub set: u8,
 }
 
 #[derive(Clone, Debug, PartialEq)]
@@ -44,9 +34,7 @@ pub struct Rule {
 }
 
 pub const MARK: &[u8] = b"TPL";
-/// Without domains, and with them.
 pub const VERSION: u16 = 1;
-pub const VERSION_WITH_DOMAINS: u16 = 2;
 pub const HEADER_BYTES: usize = 9;
 pub const MOST_LETTERS: usize = 8;
 pub const MOST_FIELDS: usize = 6;
@@ -70,40 +58,6 @@ impl Sheet {
             self.rules.len() as u64,
         ]
     }
-
-    pub fn version(&self) -> u16 {
-        match self.domains {
-            None => VERSION,
-            Some(_) => VERSION_WITH_DOMAINS,
-        }
-    }
-
-    /// What a field admits. Version 1 is read as least length 0 and all letters.
-    pub fn domain(&self, field: usize) -> Domain {
-        match &self.domains {
-            None => Domain::all(self.letters.len()),
-            Some(domains) => domains[field],
-        }
-    }
-}
-
-impl Domain {
-    /// All texts over `l` letters.
-    pub fn all(l: usize) -> Domain {
-        let set = (0..l).fold(0, |set, letter| set | 1 << letter);
-        Domain { least: 0, set }
-    }
-
-    /// Is this letter in the set?
-    pub fn admits(self, letter: usize) -> bool {
-        self.set >> letter & 1 == 1
-    }
-
-    /// Is a text, in letter numbers, as long as it must be and of letters that are admitted?
-    pub fn keeps(self, text: &[u8]) -> bool {
-        let mut letters = text.iter().map(|&letter| usize::from(letter));
-        text.len() >= usize::from(self.least) && letters.all(|letter| self.admits(letter))
-    }
 }
 
 /// Reads a sheet that is known to be accepted.
@@ -113,16 +67,12 @@ pub fn accepted(sheet: &[u8]) -> Sheet {
 
 /// Reads a whole sheet, or answers the first refusal in document 01's order.
 pub fn read(sheet: &[u8]) -> Result<Sheet, Refusal> {
-    let (version, [l, v, e, r]) = read_header(sheet)?;
+    let [l, v, e, r] = read_header(sheet)?;
     let mut walk = Walk {
         rest: &sheet[HEADER_BYTES..],
     };
     let letters = read_letters(&mut walk, l)?;
     let limits = read_limits(&mut walk, v)?;
-    let domains = match version {
-        VERSION_WITH_DOMAINS => Some(read_domains(&mut walk, l, &limits)?),
-        _ => None,
-    };
     let mut pairs = Vec::new();
     for _ in 0..e {
         pairs.push(read_pair(&mut walk, l, &limits)?);
@@ -137,22 +87,20 @@ pub fn read(sheet: &[u8]) -> Result<Sheet, Refusal> {
     Ok(Sheet {
         letters,
         limits,
-        domains,
         pairs,
         rules,
     })
 }
 
-/// The version and the counts L, V, E and R of the first nine bytes.
-fn read_header(sheet: &[u8]) -> Result<(u16, [u8; 4]), Refusal> {
+/// The counts L, V, E and R of the first nine bytes.
+fn read_header(sheet: &[u8]) -> Result<[u8; 4], Refusal> {
     if sheet.len() < HEADER_BYTES {
         return Err(Refusal::UnderNineBytes);
     }
     if &sheet[0..3] != MARK {
         return Err(Refusal::Mark);
     }
-    let version = u16::from_be_bytes([sheet[3], sheet[4]]);
-    if version != VERSION && version != VERSION_WITH_DOMAINS {
+    if u16::from_be_bytes([sheet[3], sheet[4]]) != VERSION {
         return Err(Refusal::Version);
     }
     let [l, v, e, r] = [sheet[5], sheet[6], sheet[7], sheet[8]];
@@ -168,7 +116,7 @@ fn read_header(sheet: &[u8]) -> Result<(u16, [u8; 4]), Refusal> {
     if usize::from(r) > MOST_RULES {
         return Err(Refusal::RuleCount);
     }
-    Ok((version, [l, v, e, r]))
+    Ok([l, v, e, r])
 }
 
 /// The bytes not yet read.
@@ -210,24 +158,6 @@ pub fn read_limits(walk: &mut Walk, v: u8) -> Result<Vec<u8>, Refusal> {
         limits.push(limit);
     }
     Ok(limits)
-}
-
-/// For each limit a least length, which is not above it, and a set of letters, which has no bit at or above
-/// `l`.
-fn read_domains(walk: &mut Walk, l: u8, limits: &[u8]) -> Result<Vec<Domain>, Refusal> {
-    let mut domains = Vec::new();
-    for &limit in limits {
-        let least = walk.next()?;
-        if least > limit {
-            return Err(Refusal::LeastLength);
-        }
-        let set = walk.next()?;
-        if (l..8).any(|bit| set >> bit & 1 == 1) {
-            return Err(Refusal::LetterSet);
-        }
-        domains.push(Domain { least, set });
-    }
-    Ok(domains)
 }
 
 /// Both symbol counts, the left symbols, the right symbols; then both widths are tested.

@@ -1,7 +1,6 @@
 //! The parts of the test that read sheets.
 
 use crate::changes::each_value_of_each_byte;
-use crate::domains;
 use crate::reader::{self, Sheet};
 use crate::report::{require, Hex};
 use crate::sheets;
@@ -23,8 +22,8 @@ pub fn run(test: &mut Test) {
     test.part("very long sheets", long_sheets);
 }
 
-/// Sheets with the answer that document 01 gives them (0: accepted), or document 02, No. 7.
-const KNOWN: [(u8, &[u8]); 23] = [
+/// Sheets with the answer that document 01 gives them (0: accepted).
+const KNOWN: [(u8, &[u8]); 8] = [
     (1, b""),
     (0, sheets::P),
     // P with its last byte missing, and with a 16th byte.
@@ -36,25 +35,6 @@ const KNOWN: [(u8, &[u8]); 23] = [
     // Coefficients 0xFC and 0xFB.
     (0, b"TPL\0\x01\x01\x01\x01\x01A\x08\0\0\xFC\0\0"),
     (15, b"TPL\0\x01\x01\x01\x01\x01A\x08\0\0\xFB\0\0"),
-    // Versions 0, 2 without domains, 3, 256 and 258; P as version 2, also with a byte too many.
-    (3, b"TPL\0\0\x01\x01\x01\0A\x01\x01\x01\x80\0"),
-    (12, b"TPL\0\x02\x01\x01\x01\0A\x01\x01\x01\x80\0"),
-    (3, b"TPL\0\x03\x01\x01\x01\0A\x01\0\x01\x01\x01\x80\0"),
-    (3, b"TPL\x01\0\x01\x01\x01\0A\x01\0\x01\x01\x01\x80\0"),
-    (3, b"TPL\x01\x02\x01\x01\x01\0A\x01\0\x01\x01\x01\x80\0"),
-    (0, sheets::P_2),
-    (9, b"TPL\0\x02\x01\x01\x01\0A\x01\0\x01\x01\x01\x80\0\0"),
-    // Least lengths 1 and 2 of a limit of 1, sets of no letter and of two of one.
-    (0, b"TPL\0\x02\x01\x01\x01\0A\x01\x01\0\x01\x01\x80\0"),
-    (46, b"TPL\0\x02\x01\x01\x01\0A\x01\x02\0\x01\x01\x80\0"),
-    (47, b"TPL\0\x02\x01\x01\x01\0A\x01\x01\x03\x01\x01\x80\0"),
-    // A least length of 1 of a limit of 0, and bit 7 of seven letters and of eight.
-    (46, b"TPL\0\x02\x01\x01\x01\0A\0\x01\x01\0\0"),
-    (47, b"TPL\0\x02\x07\x01\x01\0ABCDEFG\0\0\x80\0\0"),
-    (0, b"TPL\0\x02\x08\x01\x01\0ABCDEFGH\0\0\x80\0\0"),
-    // No fields, and so no domains.
-    (0, b"TPL\0\x02\x01\0\x01\0A\0\0"),
-    (8, b"TPL\0\x02\x01\x01\x01\0A\x01"),
 ];
 
 /// Holds the reader itself to document 01's own answers, and the library too.
@@ -74,22 +54,10 @@ fn known_answers(test: &mut Test) {
     }
 }
 
-/// P, a sheet of middle size and a largest one, of both versions: each value of each byte, and each cut.
+/// P, a sheet of middle size and a largest one: each value of each byte, and each cut.
 fn small_changes(test: &mut Test) {
-    let mut largest = sheets::largest(&mut test.random);
-    let domains = domains::all(&largest.limits, largest.letters.len());
-    let [largest, largest_2] = [None, Some(domains)].map(|domains| {
-        largest.domains = domains;
-        sheets::encode(&largest)
-    });
-    for sheet in [
-        sheets::P,
-        sheets::MIDDLE,
-        &largest,
-        sheets::P_2,
-        sheets::MIDDLE_2,
-        &largest_2,
-    ] {
+    let largest = sheets::encode(&sheets::largest(&mut test.random));
+    for sheet in [sheets::P, sheets::MIDDLE, &largest[..]] {
         for changed in each_value_of_each_byte(sheet) {
             test.read(&changed);
         }

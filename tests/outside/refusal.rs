@@ -43,12 +43,4 @@ pub enum Refusal {
     HoursFault = 43,
     Window = 44,
     WindowOrder = 45,
-    LeastLength = 46,
-    LetterSet = 47,
-}
-
-/// The numbers of the refusals of a sheet, which every call that is given one has.
-pub fn of_sheet() -> impl Iterator<Item = u8> {
-    let first = Refusal::UnderNineBytes as u8..=Refusal::Coefficient as u8;
-    first.chain(Refusal::LeastLength as u8..=Refusal::LetterSet as u8)
 }

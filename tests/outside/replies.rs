@@ -4,17 +4,15 @@
 use crate::answers;
 use crate::assignment::{self, Numbered};
 use crate::changes::each_value_of_each_byte;
-use crate::domains;
 use crate::engine;
 use crate::fillings;
 use crate::planted;
 use crate::random::Random;
 use crate::reader::Sheet;
-use crate::refusal;
 use crate::reply::{Asked, MOST_BYTES};
 use crate::report::{require, Case, Hex};
 use crate::sheets;
-use crate::speller::{self, Verdict, FIELD_BYTES};
+use crate::speller::FIELD_BYTES;
 use crate::tally::Tally;
 use crate::test;
 use crate::texts;
@@ -23,8 +21,6 @@ const SMALL_SHEETS: usize = 2600;
 const LARGE_SHEETS: usize = 60;
 const TEXTS_OF_EACH: usize = 45;
 const REFUSED_SHEETS: usize = 40_000;
-const OF_DOMAINS: usize = 20_000;
-const LATER_PERCENT: usize = 30;
 const DAMAGED_LISTING_PERCENT: usize = 40;
 const DAMAGED_TEXT_PERCENT: usize = 55;
 
@@ -37,14 +33,13 @@ pub struct Replies {
 }
 
 pub fn run() {
-    let mut replies = Replies::new("replies", refusal::of_sheet().chain([27]).chain(30..=39));
+    let mut replies = Replies::new("replies", (1..=15).chain([27]).chain(30..=39));
     replies.part("replies with a known answer", answers::known);
     replies.part("replies, several faults at once", answers::several_faults);
     replies.part("replies of all sizes", sizes);
     replies.part("replies, one byte changed, added or cut", small_changes);
     replies.part("replies to small sheets", small);
     replies.part("replies to large sheets", large);
-    replies.part("replies that only a domain is against", domain_alone);
     replies.part("replies to refused sheets", refused);
     replies.finish();
 }
@@ -222,26 +217,6 @@ fn generated(replies: &mut Replies, times: usize, makers: [fn(&mut Random) -> Sh
             let text = text(&mut replies.random, asked.accepted(), &listing);
             replies.compare(&asked, &text);
         }
-    }
-}
-
-/// Replies to sheets in which a filling was made to clash but for the domains of some fields: that filling's
-/// assignment is refused with 39, in every way to list it.
-fn domain_alone(replies: &mut Replies) {
-    for _ in 0..OF_DOMAINS {
-        let random = &mut replies.random;
-        let (mut sheet, filling) = planted::clashing(random, sheets::of_few_fillings);
-        domains::break_some(random, &mut sheet, &filling, LATER_PERCENT);
-        let verdict = speller::judge(&sheet, &filling);
-        if !matches!(verdict, Verdict::DomainBreaks(_)) {
-            continue;
-        }
-        let asked = Asked::new(&sheets::encode(&sheet));
-        let mut listing = texts::listing(&sheet, &filling);
-        texts::vary(&mut replies.random, asked.accepted(), &mut listing);
-        let text = texts::set_out(&mut replies.random, &listing);
-        require_plain(&asked, &text, asked.filling_bytes(), Err(39));
-        replies.compare(&asked, &text);
     }
 }
 

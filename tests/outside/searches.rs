@@ -15,8 +15,8 @@ use crate::planted;
 use crate::printed;
 use crate::question::{self, REASONS, SPREADS};
 use crate::random::Random;
-use crate::reader::{self, Sheet, Symbol};
-use crate::refusal::{self, Refusal};
+use crate::reader::{self, Sheet};
+use crate::refusal::Refusal;
 use crate::reordered;
 use crate::report::{require, Case, Hex};
 use crate::shapes;
@@ -32,18 +32,15 @@ const FAR_PERCENT: usize = 20;
 const WIDE_PERCENT: usize = 10;
 const SPLIT_PERCENT: usize = 8;
 const TRADED_PERCENT: usize = 8;
-const MEETING_PERCENT: usize = 14;
 const PLANTED: usize = 2000;
 const REFUSED: usize = 60_000;
 /// How many small sheets must clash and how many be apart, and how many have each reason, each
-/// spread of clashes and each shape. So many must have another first clash by each wrong order, and so many
-/// come to each thing by their domains.
+/// spread of clashes and each shape. So many must have another first clash by each wrong order.
 const LEAST_OF_EACH_ANSWER: usize = 15_000;
 const LEAST_OF_EACH_REASON: usize = 1500;
 const LEAST_OF_EACH_SPREAD: usize = 500;
 const LEAST_OF_EACH_SHAPE: usize = 500;
 const LEAST_OF_EACH_ORDER: usize = 300;
-const LEAST_OF_EACH_CHANGE: usize = 500;
 /// In how many sheets with a planted clash the first must be another one.
 const LEAST_BEFORE_PLANTED: usize = 500;
 
@@ -61,7 +58,7 @@ pub struct Searches {
 
 pub fn run() {
     println!("outside: known reports: {}", printed::known());
-    let mut searches = Searches::new("searches", refusal::of_sheet().chain([27]));
+    let mut searches = Searches::new("searches", (1..=15).chain([27]));
     searches.part("searches with a known answer", known);
     searches.part("searches with buffers of all lengths", all_buffers);
     searches.part("searches of small sheets", small);
@@ -212,17 +209,8 @@ const SIX: &[u8] = b"TPL\0\x01\x02\x06\x01\0AB\x01\x01\x01\x01\x01\x01\
 const SIX_APART: &[u8] = b"TPL\0\x01\x02\x06\x01\0AB\x01\x01\x01\x01\x01\x01\
     \x06\x07\x80\x81\x82\x83\x84\x85\0\x01\0\x01\0\x01\0";
 
-/// P as version 2 with least length 1, with no letter, with both, with a least length above the limit, with a
-/// letter that is not there, and with a set missing.
-const P_LONG: &[u8] = b"TPL\0\x02\x01\x01\x01\0A\x01\x01\x01\x01\x01\x80\0";
-const P_EMPTY: &[u8] = b"TPL\0\x02\x01\x01\x01\0A\x01\0\0\x01\x01\x80\0";
-const P_NEVER: &[u8] = b"TPL\0\x02\x01\x01\x01\0A\x01\x01\0\x01\x01\x80\0";
-const P_ABOVE: &[u8] = b"TPL\0\x02\x01\x01\x01\0A\x01\x02\x01\x01\x01\x80\0";
-const P_OTHER: &[u8] = b"TPL\0\x02\x01\x01\x01\0A\x01\0\x02\x01\x01\x80\0";
-const P_CUT: &[u8] = b"TPL\0\x02\x01\x01\x01\0A\x01\0";
-
 /// What is to be returned for a sheet and a buffer of this length.
-const KNOWN: [(i64, &[u8], usize); 24] = [
+const KNOWN: [(i64, &[u8], usize); 16] = [
     (1, sheets::P, 9),
     (1, sheets::P, 54),
     (-27, sheets::P, 8),
@@ -239,14 +227,6 @@ const KNOWN: [(i64, &[u8], usize); 24] = [
     (-8, CUT, 0),
     (-9, LONG, 9),
     (-9, LONG, 0),
-    (1, sheets::P_2, 9),
-    (1, P_LONG, 9),
-    (0, P_EMPTY, 9),
-    (0, P_NEVER, 9),
-    (-27, P_NEVER, 8),
-    (-46, P_ABOVE, 0),
-    (-47, P_OTHER, 9),
-    (-8, P_CUT, 9),
 ];
 
 /// Holds what is due here to document 01's own answers, and the library too.
@@ -281,8 +261,6 @@ fn all_buffers(searches: &mut Searches) {
         answers::UNUSED,
         SIX,
         SIX_APART,
-        P_LONG,
-        P_EMPTY,
     ] {
         let tried = question::try_all(&reader::accepted(sheet));
         searches.compare_in(sheet, tried.first(), &rooms);
@@ -297,7 +275,6 @@ fn small(searches: &mut Searches) {
     let mut spreads = Tally::new("small sheets", &SPREADS, 0..0);
     let names = WRONG.map(|wrong| wrong.name);
     let mut orders = Tally::new("small sheets with another first clash by", &names, 0..0);
-    let mut changes = Tally::new("domains of small sheets", &CHANGES, 0..0);
     let mut alone = 0;
     let examples = examples::sheets().into_iter().map(reader::accepted);
     let made = (0..SMALL).map(|_| small_sheet(&mut searches.random));
@@ -319,9 +296,6 @@ fn small(searches: &mut Searches) {
         );
         met.count(sheet, tried.clash());
         reasons.count(Ok(tried.reason));
-        for change in of_domains(sheet, first) {
-            changes.count(Ok(change));
-        }
         if let (Some(first), Some(spread)) = (first, tried.spread()) {
             spreads.count(Ok(spread));
             alone += usize::from(tried.clashes.len() == 1);
@@ -335,7 +309,6 @@ fn small(searches: &mut Searches) {
     reasons.finish_at(LEAST_OF_EACH_REASON);
     spreads.finish_at(LEAST_OF_EACH_SPREAD);
     orders.finish_at(LEAST_OF_EACH_ORDER);
-    changes.finish_at(LEAST_OF_EACH_CHANGE);
     met.finish(LEAST_OF_EACH_ANSWER, LEAST_OF_EACH_SHAPE);
     println!(
         "outside: brute force agrees with the search on {} small sheets: {} clash, \
@@ -347,47 +320,6 @@ fn small(searches: &mut Searches) {
     );
 }
 
-/// What domains change of the first clash, or what they have to decide.
-const CHANGES: [&str; 6] = [
-    "there is no clash either way",
-    "the first clash is the same without",
-    "only letters are others without",
-    "lengths are others without",
-    "there is a clash without, and none with",
-    "a letter that nothing else decides is not its field's lowest",
-];
-
-/// What the domains of a sheet with this first clash come to, if it has any.
-fn of_domains(sheet: &Sheet, first: Option<&Filling>) -> Vec<&'static str> {
-    if sheet.domains.is_none() {
-        return Vec::new();
-    }
-    let mut without = sheet.clone();
-    without.domains = None;
-    let change = match (first, first::clash(&without)) {
-        (None, None) => CHANGES[0],
-        (Some(first), Some(other)) if *first == other => CHANGES[1],
-        (Some(first), Some(other)) if order::lengths(first) == order::lengths(&other) => CHANGES[2],
-        (Some(_), _) => CHANGES[3],
-        (None, Some(_)) => CHANGES[4],
-    };
-    let mut met = vec![change];
-    let is_letter = |symbol: &Symbol| matches!(symbol, Symbol::Letter(_));
-    let no_letters = |template: &[Symbol]| !template.iter().any(is_letter);
-    let mut pairs = sheet.pairs.iter();
-    let free = pairs.all(|pair| no_letters(&pair.left) && no_letters(&pair.right));
-    let fields = first.into_iter().flatten().enumerate();
-    let mut letters = fields.flat_map(|(field, text)| text.iter().map(move |&a| (field, a)));
-    let is_higher = |(field, letter): (usize, u8)| {
-        let lowest = sheet.domain(field).set.trailing_zeros();
-        u32::from(letter) > lowest
-    };
-    if free && letters.any(is_higher) {
-        met.push(CHANGES[5]);
-    }
-    met
-}
-
 pub fn small_sheet(random: &mut Random) -> Sheet {
     if random.chance(FAR_PERCENT) {
         small::far(random)
@@ -397,8 +329,6 @@ pub fn small_sheet(random: &mut Random) -> Sheet {
         small::split(random)
     } else if random.chance(TRADED_PERCENT) {
         small::traded(random)
-    } else if random.chance(MEETING_PERCENT) {
-        small::meeting(random)
     } else {
         small::sheet(random)
     }

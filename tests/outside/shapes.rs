@@ -10,17 +10,11 @@ pub struct Shape(&'static str, fn(&Sheet) -> bool);
 pub type Shapes = [&'static [Shape]];
 
 /// What may be special about a sheet of any size, about a small one, and about a large one.
-pub const ALL: &Shapes = &[
-    &COMMON,
-    &OF_ANY_SIZE,
-    &LARGE,
-    &DOMAINS,
-    &DOMAINS_OF_ANY_SIZE,
-];
-pub const OF_SMALL: &Shapes = &[&COMMON, &SMALL, &SHARED, &DOMAINS];
-pub const OF_LARGE: &Shapes = &[&LARGE, &SHARED, &DOMAINS];
+pub const ALL: &Shapes = &[&COMMON, &OF_ANY_SIZE, &LARGE];
+pub const OF_SMALL: &Shapes = &[&COMMON, &SMALL, &SHARED];
+pub const OF_LARGE: &Shapes = &[&LARGE, &SHARED];
 
-const COMMON: [Shape; 9] = [
+const COMMON: [Shape; 8] = [
     Shape("no fields", |sheet| sheet.limits.is_empty()),
     Shape("no fields, but rules", |sheet| {
         sheet.limits.is_empty() && !sheet.rules.is_empty()
@@ -40,12 +34,6 @@ const COMMON: [Shape; 9] = [
     }),
     Shape("one place on both sides", |sheet| {
         any_shared_cell(sheet, |cell| matches!(cell, Cell::Place(..)))
-    }),
-    Shape("domains that admit everything", |sheet| {
-        let all = Domain::all(sheet.letters.len());
-        let has_places = sheet.limits.iter().any(|&limit| limit > 0);
-        let admits_all = |domains: &Vec<Domain>| domains.iter().all(|&domain| domain == all);
-        has_places && sheet.domains.as_ref().map_or(false, admits_all)
     }),
 ];
 
@@ -145,60 +133,6 @@ const LARGE: [Shape; 7] = [
         any_pair(sheet, |pair| is_wide(&pair.left) || is_wide(&pair.right))
     }),
 ];
-
-const DOMAINS: [Shape; 8] = [
-    Shape("version 1", |sheet| sheet.domains.is_none()),
-    Shape("version 2", |sheet| sheet.domains.is_some()),
-    Shape("a least length above 0", |sheet| {
-        any_domain(sheet, |domain, _, _| domain.least > 0)
-    }),
-    Shape("a least length at its limit", |sheet| {
-        any_domain(sheet, |domain, limit, _| domain.least == limit)
-    }),
-    Shape("a least length and a letter left out", |sheet| {
-        any_domain(sheet, |domain, _, all| {
-            domain.least > 0 && domain.set != all
-        })
-    }),
-    Shape("a set without letter 0", |sheet| {
-        any_domain(sheet, |domain, _, _| domain.set > 0 && !domain.admits(0))
-    }),
-    Shape("a set of one letter of several", |sheet| {
-        any_domain(sheet, |domain, _, all| {
-            domain.set.count_ones() == 1 && domain.set != all
-        })
-    }),
-    Shape("a set without the last letter alone", |sheet| {
-        any_domain(sheet, |domain, _, all| all > 1 && domain.set == all >> 1)
-    }),
-];
-
-const DOMAINS_OF_ANY_SIZE: [Shape; 5] = [
-    Shape("version 2, and no fields", |sheet| {
-        sheet.domains.is_some() && sheet.limits.is_empty()
-    }),
-    Shape("an empty set of letters", |sheet| {
-        any_domain(sheet, |domain, _, _| domain.set == 0)
-    }),
-    Shape("an empty set and a least length", |sheet| {
-        any_domain(sheet, |domain, _, _| domain.set == 0 && domain.least > 0)
-    }),
-    Shape("a set with bit 7", |sheet| {
-        any_domain(sheet, |domain, _, _| domain.admits(7))
-    }),
-    Shape("version 2, and all counts at their greatest", |sheet| {
-        let greatest = [MOST_LETTERS, MOST_FIELDS, MOST_PAIRS, MOST_RULES];
-        sheet.domains.is_some() && sheet.counts() == greatest.map(|count| count as u64)
-    }),
-];
-
-/// Has a sheet a domain of a field with places that passes the test with its limit and the set of all
-/// letters?
-fn any_domain(sheet: &Sheet, test: fn(Domain, u8, u8) -> bool) -> bool {
-    let all = Domain::all(sheet.letters.len()).set;
-    let mut domains = sheet.domains.iter().flatten().zip(&sheet.limits);
-    domains.any(|(&domain, &limit)| limit > 0 && test(domain, limit, all))
-}
 
 /// All names.
 pub fn names(shapes: &Shapes) -> Vec<&'static str> {

@@ -1,7 +1,6 @@
-//! Makes sheets to test with: valid ones over the whole range of the format, of both versions, and ways
+//! Makes sheets to test with: valid ones over the whole range of the format (version 1), and ways
 //! to damage their bytes. It knows the layout, and nothing of which refusal a damage leads to.
 
-use crate::domains;
 use crate::random::Random;
 use crate::reader::*;
 use std::ops::RangeInclusive;
@@ -13,12 +12,6 @@ pub const P: &[u8] = b"TPL\x00\x01\x01\x01\x01\x00A\x01\x01\x01\x80\x00";
 pub const MIDDLE: &[u8] = b"TPL\0\x01\x02\x02\x02\x01AB\x08\x03\
     \x04\x01\x80\x81\0\x80\x81\x01\x02\x81\0\x01\xFC\x04\xFF\xFE";
 
-/// Both as version 2. In the first the field's text may be anything. In the second the first field has at
-/// least two letters, of both, and the other one has none but B.
-pub const P_2: &[u8] = b"TPL\x00\x02\x01\x01\x01\x00A\x01\x00\x01\x01\x01\x80\x00";
-pub const MIDDLE_2: &[u8] = b"TPL\0\x02\x02\x02\x02\x01AB\x08\x03\x02\x03\0\x02\
-    \x04\x01\x80\x81\0\x80\x81\x01\x02\x81\0\x01\xFC\x04\xFF\xFE";
-
 /// Values at and beside the ends of the format's ranges.
 const EDGES: [u8; 23] = [
     0, 1, 4, 5, 6, 7, 8, 9, 12, 13, 32, 33, 126, 127, 128, 133, 134, 0xFA, 0xFB, 0xFC, 0xFD, 0xFE,
@@ -28,13 +21,10 @@ const EDGES: [u8; 23] = [
 /// The bytes of a sheet.
 pub fn encode(sheet: &Sheet) -> Vec<u8> {
     let mut bytes = MARK.to_vec();
-    bytes.extend(sheet.version().to_be_bytes());
+    bytes.extend(VERSION.to_be_bytes());
     bytes.extend(sheet.counts().map(|count| count as u8));
     bytes.extend(&sheet.letters);
     bytes.extend(&sheet.limits);
-    for domain in sheet.domains.iter().flatten() {
-        bytes.extend([domain.least, domain.set]);
-    }
     for pair in &sheet.pairs {
         bytes.push(pair.left.len() as u8);
         bytes.push(pair.right.len() as u8);
@@ -89,7 +79,7 @@ pub fn valid(random: &mut Random) -> Sheet {
     sheet_of(random, &size)
 }
 
-/// A valid sheet with every count at its greatest: 159 bytes, or of version 2 171.
+/// A valid sheet with every count at its greatest: 159 bytes.
 pub fn largest(random: &mut Random) -> Sheet {
     let size = Size {
         counts: [MOST_LETTERS, MOST_FIELDS, MOST_PAIRS, MOST_RULES],
@@ -172,7 +162,6 @@ fn sheet_of(random: &mut Random, size: &Size) -> Sheet {
     let limits: Vec<u8> = (0..v)
         .map(|_| count(random, 0, greatest_limit) as u8)
         .collect();
-    let domains = domains::any(random, &limits, l);
     let [least, most] = size.symbols;
     let side = |random: &mut Random| {
         let symbols = count(random, least, most);
@@ -188,7 +177,6 @@ fn sheet_of(random: &mut Random, size: &Size) -> Sheet {
     Sheet {
         letters,
         limits,
-        domains,
         pairs,
         rules,
     }

@@ -1,11 +1,10 @@
 //! Makes small sheets, of which all fillings can be tried: many clash, many are apart, each for
 //! many reasons.
 
-use crate::domains;
 use crate::fillings;
 use crate::planted;
 use crate::random::Random;
-use crate::reader::{Domain, Pair, Rule, Sheet, Symbol, Template, MOST_SYMBOLS};
+use crate::reader::{Pair, Rule, Sheet, Symbol, MOST_SYMBOLS};
 use crate::sheets;
 use crate::writer;
 
@@ -75,39 +74,8 @@ pub fn split(random: &mut Random) -> Sheet {
         };
         sheet.pairs.truncate(1);
         sheet.rules.truncate(1);
-        domains::plant(random, &mut sheet, &filling);
     }
     sheet
-}
-
-/// A small sheet of fields alone, in which the domains say which letters a text may have that stands in
-/// several of them.
-pub fn meeting(random: &mut Random) -> Sheet {
-    let l = random.within(3, 4);
-    let v = 6 - l;
-    let limits: Vec<u8> = (0..v).map(|_| random.within(1, 2) as u8).collect();
-    let side = |random: &mut Random| -> Template {
-        let symbols = random.within(1, 2);
-        let field = |_| Symbol::Field(random.below(v) as u8);
-        (0..symbols).map(field).collect()
-    };
-    let pairs = (0..random.within(1, 2)).map(|_| Pair {
-        left: side(random),
-        right: side(random),
-    });
-    let pairs = pairs.collect();
-    let all = Domain::all(l).set;
-    let domain = |_: &u8| Domain {
-        least: random.one_of(&[0, 1, 1]),
-        set: all & random.byte(),
-    };
-    Sheet {
-        letters: (b'a'..).take(l).collect(),
-        domains: Some(limits.iter().map(domain).collect()),
-        limits,
-        pairs,
-        rules: Vec::new(),
-    }
 }
 
 /// A small sheet in which lengths can be traded: a rule asks for so much of all fields together, and
@@ -141,7 +109,6 @@ pub fn traded(random: &mut Random) -> Sheet {
     rule.limit = -(random.within(1, least.unsigned_abs() as usize) as i16);
     Sheet {
         letters: (b'a'..).take(l).collect(),
-        domains: domains::mild(random, &limits, l),
         limits,
         pairs,
         rules: vec![rule],

@@ -22,7 +22,6 @@ use crate::texts;
 use std::thread;
 
 const GENERATED: usize = 4000;
-const MEETING_PERCENT: usize = 8;
 /// How many copies of what a solver printed are damaged.
 const DAMAGED_COPIES: usize = 3;
 const LARGE: usize = 40;
@@ -75,14 +74,7 @@ pub fn run(solvers: &[Solver]) {
 /// Document 01's examples, then sheets made by chance.
 fn small_sheets(random: &mut Random) -> Vec<Vec<u8>> {
     let examples = examples::sheets().into_iter().map(<[u8]>::to_vec);
-    let made = (0..GENERATED).map(|_| {
-        let sheet = if random.chance(MEETING_PERCENT) {
-            small::meeting(random)
-        } else {
-            small::sheet(random)
-        };
-        sheets::encode(&sheet)
-    });
+    let made = (0..GENERATED).map(|_| sheets::encode(&small::sheet(random)));
     examples.chain(made).collect()
 }
 

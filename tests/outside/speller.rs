@@ -1,5 +1,5 @@
 //! A plain checker of fillings and speller of templates, written from document 01 alone ("The
-//! sheet", "Checking a filling", "Spelling") and from document 02, Nos. 5 and 7. The library's answers are
+//! sheet", "Checking a filling", "Spelling") and from document 02, No. 5. The library's answers are
 //! compared with it. It knows nothing of the library.
 
 use crate::reader::{self, Pair, Rule, Sheet, Symbol};
@@ -14,13 +14,12 @@ pub const LEFT: u64 = 0;
 pub const RIGHT: u64 = 1;
 
 /// Whether a filling clashes, and if not, what is first against it: a pair, with what is left over of
-/// its texts, or a rule, or a field whose domain does not admit its text.
+/// its texts, or a rule.
 #[derive(Clone, Copy, Debug, PartialEq)]
 pub enum Verdict {
     Clash,
     PairDiffers(usize, Rest),
     RuleBreaks(usize),
-    DomainBreaks(usize),
 }
 
 /// What is left over of two texts: so many letters of one side, after those that agree.
@@ -33,7 +32,7 @@ pub struct Rest {
 
 impl Verdict {
     /// The five numbers of what is against a clash: 1 for a pair, its number, the letters that agree,
-    /// the rest's side and length; or 2 for a rule, or 3 for a field, its number, and three times 0.
+    /// the rest's side and length; or 2 for a rule, its number, and three times 0.
     pub fn why(&self) -> Option<[u64; 5]> {
         match *self {
             Verdict::Clash => None,
@@ -43,7 +42,6 @@ impl Verdict {
                 Some([1, pair, agreeing, rest.side, length])
             }
             Verdict::RuleBreaks(rule) => Some([2, rule as u64, 0, 0, 0]),
-            Verdict::DomainBreaks(field) => Some([3, field as u64, 0, 0, 0]),
         }
     }
 }
@@ -122,11 +120,6 @@ pub fn judge(sheet: &Sheet, filling: &Filling) -> Verdict {
     for (number, rule) in sheet.rules.iter().enumerate() {
         if breaks(rule, filling) {
             return Verdict::RuleBreaks(number);
-        }
-    }
-    for (field, text) in filling.iter().enumerate() {
-        if !sheet.domain(field).keeps(text) {
-            return Verdict::DomainBreaks(field);
         }
     }
     Verdict::Clash

@@ -6,7 +6,7 @@ use crate::fillings;
 use crate::listed;
 use crate::random::Random;
 use crate::reader;
-use crate::refusal::{self, Refusal};
+use crate::refusal::Refusal;
 use crate::report::{require, Case, Hex};
 use crate::schedule::{self, Wrong};
 use crate::shapes;
@@ -47,20 +47,12 @@ impl Test {
         let spell_answers = ["empty text", "text of 1 to 23", "text of 24"];
         Test {
             random: Random::new(1),
-            read: Tally::new("tpl_read", &["accepted"], refusal::of_sheet()),
-            check: Tally::new(
-                "tpl_check",
-                &check_answers,
-                refusal::of_sheet().chain(20..=23),
-            ),
-            spell: Tally::new(
-                "tpl_spell",
-                &spell_answers,
-                refusal::of_sheet().chain(20..=26),
-            ),
-            count: Tally::new("tpl_count", &["counted"], refusal::of_sheet()),
-            line: Tally::new("tpl_line", &KINDS, refusal::of_sheet().chain(28..=29)),
-            file: Tally::new("tpl_file", &FILE_ROOMS, refusal::of_sheet().chain(29..=29)),
+            read: Tally::new("tpl_read", &["accepted"], 1..=15),
+            check: Tally::new("tpl_check", &check_answers, (1..=15).chain(20..=23)),
+            spell: Tally::new("tpl_spell", &spell_answers, (1..=15).chain(20..=26)),
+            count: Tally::new("tpl_count", &["counted"], 1..=15),
+            line: Tally::new("tpl_line", &KINDS, (1..=15).chain(28..=29)),
+            file: Tally::new("tpl_file", &FILE_ROOMS, (1..=15).chain(29..=29)),
             book: Tally::new("tpl_book", &listed::BOOK_KINDS, 40..=42),
             hours: Tally::new("tpl_book_hours", &listed::BOOK_KINDS, 40..=45),
             shapes: Tally::new("counted sheets with", &shapes::names(shapes::ALL), 0..0),

@@ -5,7 +5,7 @@
 use crate::engine;
 use crate::form::Form;
 use crate::random::Random;
-use crate::reader::{self, Domain, Pair, Sheet, MOST_LETTERS};
+use crate::reader::{self, Pair, Sheet, MOST_LETTERS};
 use crate::report::{require, Hex};
 use crate::sheets;
 use crate::tally::Tally;
@@ -37,12 +37,7 @@ const KINDS: [&str; 8] = [
 /// With one letter there are no two.
 const DIFFERENT_LETTERS: usize = 1;
 
-const SHAPES: [&str; 14] = [
-    "version 1",
-    "version 2",
-    "a field that admits some of its letters",
-    "a field that admits no letter",
-    "a field of a least length",
+const SHAPES: [&str; 9] = [
     "a field of limit 0",
     "a field of limit 1",
     "a field of a greater limit",
@@ -72,9 +67,7 @@ pub fn run(random: &mut Random) {
             ticking.compare(&sheets::encode(&sheet));
         }
     }
-    for sheet in writing::fullest() {
-        ticking.compare(&sheets::encode(&sheet));
-    }
+    ticking.compare(&sheets::encode(&writing::fullest()));
     // Damaged sheets; those that are refused are passed over.
     for _ in 0..DAMAGED {
         let mut bytes = sheets::encode(&sheets::valid(random));
@@ -152,18 +145,6 @@ impl Ticking {
             1 => "a field of limit 1",
             _ => "a field of a greater limit",
         }));
-        met.push(match sheet.domains {
-            None => "version 1",
-            Some(_) => "version 2",
-        });
-        for domain in sheet.domains.iter().flatten() {
-            met.extend(match domain.set {
-                0 => Some("a field that admits no letter"),
-                set if set == Domain::all(sheet.letters.len()).set => None,
-                _ => Some("a field that admits some of its letters"),
-            });
-            met.extend((domain.least > 0).then_some("a field of a least length"));
-        }
         met.extend(sheet.limits.is_empty().then_some("no fields"));
         met.extend(sheet.rules.is_empty().then_some("no rules"));
         for Pair { left, right } in &sheet.pairs {
@@ -241,9 +222,6 @@ fn of_tool(ticks: &Ticks) -> Vec<Count> {
             field.not_two.clauses(),
         );
         add(format!("field {f}, blank tail"), field.blank.clauses());
-        let not_admitted = field.not_admitted.clauses();
-        add(format!("field {f}, letters not admitted"), not_admitted);
-        add(format!("field {f}, not blank"), field.not_blank.clauses());
         add(format!("field {f}"), field.clauses());
     }
     for (p, pair) in ticks.pairs.iter().enumerate() {
@@ -276,8 +254,8 @@ fn of_tool(ticks: &Ticks) -> Vec<Count> {
 /// How many clauses the plain writer lists, by what the first literal of each speaks of.
 struct Listed {
     all: u64,
-    /// A value, not two values, blank tail, letters not admitted, not blank.
-    fields: Vec<[u64; 5]>,
+    /// A value, not two values, blank tail.
+    fields: Vec<[u64; 3]>,
     pairs: Vec<ListedPair>,
     rules: Vec<ListedRule>,
 }
@@ -318,8 +296,6 @@ impl Clauses for Listed {
             ("K, one of all values", Variable::K(f, ..)) => &mut self.fields[f][0],
             ("K, not two values", Variable::K(f, ..)) => &mut self.fields[f][1],
             ("K, blank tail", Variable::K(f, ..)) => &mut self.fields[f][2],
-            ("K, letter not admitted", Variable::K(f, ..)) => &mut self.fields[f][3],
-            ("K, not blank", Variable::K(f, ..)) => &mut self.fields[f][4],
             ("S, first location", Variable::S(p, 0, 0)) => &mut self.pairs[p].first,
             (_, Variable::S(p, i, j)) => {
                 let pair = &mut self.pairs[p];
@@ -348,7 +324,7 @@ impl Listed {
         let pairs = sheet.pairs.iter();
         let mut listed = Listed {
             all: 0,
-            fields: vec![[0; 5]; v],
+            fields: vec![[0; 3]; v],
             pairs: pairs.map(|pair| ListedPair::new(sheet, pair)).collect(),
             rules: sheet.rules.iter().map(rule).collect(),
         };
@@ -362,13 +338,7 @@ impl Listed {
         let mut add = |what: String, count| counts.push(Count(what, count));
         let (mut fields, mut pairs, mut rules) = (0, 0, 0);
         for (f, field) in self.fields.iter().enumerate() {
-            let cases = [
-                "a value",
-                "not two values",
-                "blank tail",
-                "letters not admitted",
-                "not blank",
-            ];
+            let cases = ["a value", "not two values", "blank tail"];
             for (case, count) in cases.iter().zip(field) {
                 add(format!("field {f}, {case}"), *count);
             }

@@ -17,7 +17,7 @@ use crate::whys;
 use std::mem;
 
 /// The first so many bytes of a sheet decide.
-const DECIDING: usize = 172;
+const DECIDING: usize = 160;
 /// How often a filling that checks as a clash is spelled too.
 const CLASH_PERCENT: usize = 20;
 /// How often what is said to be against a clash is held to what is spelled.
@@ -102,7 +102,7 @@ impl Turn<'_> {
         got
     }
 
-    /// The first 172 bytes decide, and what `tpl_read` refuses every call refuses with its number.
+    /// The first 160 bytes decide, and what `tpl_read` refuses every call refuses with its number.
     fn sheet_refusals(&mut self, answers: &Answers) {
         let sheet = &self.input.sheet[..];
         let read = answers.read.status;
@@ -158,8 +158,7 @@ impl Turn<'_> {
     }
 
     /// Now and then, what is first against a clash is held to what is spelled. All pairs before the one
-    /// that is told spell one text, where a rule or a domain is told all do, and what is left over fits the
-    /// texts.
+    /// that is told spell one text, where a rule is told all do, and what is left over fits the texts.
     fn against(&mut self, answers: &Answers) {
         let check = &answers.check;
         if check.status != 0 || !self.random.chance(AGAINST_PERCENT) {

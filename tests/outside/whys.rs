@@ -3,20 +3,18 @@
 //! a test that never meets it cannot pass.
 
 use crate::listed::LONGEST_TEXT;
-use crate::reader::{Domain, Sheet, MOST_FIELDS, MOST_PAIRS, MOST_RULES};
+use crate::reader::{Sheet, MOST_PAIRS, MOST_RULES};
 use crate::speller::{self, Filling, LEFT, RIGHT};
 use crate::tally::Tally;
 
 /// What is first against a clash.
-pub const KINDS: [&str; 8] = [
+pub const KINDS: [&str; 6] = [
     "left rest of the first pair",
     "right rest of the first pair",
     "left rest of a later pair",
     "right rest of a later pair",
     "the first rule",
     "a later rule",
-    "the first field's domain",
-    "a later field's domain",
 ];
 
 /// The place in `KINDS` of five numbers, if they are all in their ranges.
@@ -31,10 +29,6 @@ pub fn kind(why: &[u64]) -> Option<usize> {
         [2, rule, 0, 0, 0] => {
             let fits = rule < MOST_RULES as u64;
             fits.then_some(4 + usize::from(rule > 0))
-        }
-        [3, field, 0, 0, 0] => {
-            let fits = field < MOST_FIELDS as u64;
-            fits.then_some(6 + usize::from(field > 0))
         }
         _ => None,
     }
@@ -60,14 +54,10 @@ pub fn fits(texts: &[Vec<u8>; 2], agreeing: u64, side: u64, length: u64) -> bool
 struct Against {
     /// The texts of each pair.
     texts: Vec<[Vec<u8>; 2]>,
-    /// The numbers of the pairs that differ, of the rules that break, and of the fields whose domains break.
+    /// The numbers of the pairs that differ, and of the rules that break.
     pairs: Vec<usize>,
     rules: Vec<usize>,
-    fields: Vec<usize>,
     has_rules: bool,
-    has_domains: bool,
-    /// The text of the first field whose domain breaks, and that domain.
-    first: Option<(Vec<u8>, Domain)>,
 }
 
 impl Against {
@@ -76,17 +66,10 @@ impl Against {
         let texts: Vec<[Vec<u8>; 2]> = texts.map(|pair| speller::texts(pair, filling)).collect();
         let differs = |&pair: &usize| texts[pair][0] != texts[pair][1];
         let breaks = |&rule: &usize| speller::breaks(&sheet.rules[rule], filling);
-        let is_kept = |&field: &usize| sheet.domain(field).keeps(&filling[field]);
-        let fields: Vec<usize> = (0..filling.len()).filter(|field| !is_kept(field)).collect();
-        let first = fields.first();
-        let first = first.map(|&field| (filling[field].clone(), sheet.domain(field)));
         Against {
             pairs: (0..sheet.pairs.len()).filter(differs).collect(),
             rules: (0..sheet.rules.len()).filter(breaks).collect(),
-            fields,
             has_rules: !sheet.rules.is_empty(),
-            has_domains: sheet.domains.is_some(),
-            first,
             texts,
         }
     }
@@ -108,30 +91,6 @@ impl Against {
     fn rule_is(&self, number: usize) -> bool {
         self.pairs.is_empty() && self.rules.first() == Some(&number)
     }
-
-    /// Is this the first field whose domain breaks, and is nothing else against a clash?
-    fn field_is(&self, number: usize) -> bool {
-        self.only_domains() && self.fields.first() == Some(&number)
-    }
-
-    fn only_domains(&self) -> bool {
-        self.pairs.is_empty() && self.rules.is_empty()
-    }
-
-    /// Are only domains against a clash, and does the first that breaks pass the test with its text?
-    fn first_domain(&self, test: fn(&[u8], Domain) -> bool) -> bool {
-        let passes = |(text, domain): &(Vec<u8>, Domain)| test(text, *domain);
-        self.only_domains() && self.first.as_ref().map_or(false, passes)
-    }
-}
-
-/// Does a domain break by a letter that is not admitted?
-fn has_other_letter(text: &[u8], domain: Domain) -> bool {
-    text.iter().any(|&letter| !domain.admits(letter.into()))
-}
-
-fn is_too_short(text: &[u8], domain: Domain) -> bool {
-    text.len() < usize::from(domain.least)
 }
 
 /// A name, and whether it fits.
@@ -231,71 +190,6 @@ static OF_ALL: [Special; 14] = [
     }),
 ];
 
-/// Of domains.
-static OF_DOMAINS: [Special; 16] = [
-    Special("only domains, field 0 the first", |against| {
-        against.field_is(0)
-    }),
-    Special("only domains, field 1 the first", |against| {
-        against.field_is(1)
-    }),
-    Special("only domains, field 2 the first", |against| {
-        against.field_is(2)
-    }),
-    Special("only domains, field 3 the first", |against| {
-        against.field_is(3)
-    }),
-    Special("only domains, field 4 the first", |against| {
-        against.field_is(4)
-    }),
-    Special("only domains, field 5 the first", |against| {
-        against.field_is(5)
-    }),
-    Special("only domains, several of them", |against| {
-        against.only_domains() && against.fields.len() > 1
-    }),
-    Special("only domains, a text that is too short", |against| {
-        against.first_domain(|text, domain| {
-            is_too_short(text, domain) && !has_other_letter(text, domain)
-        })
-    }),
-    Special("only domains, a text one letter too short", |against| {
-        against.first_domain(|text, domain| text.len() + 1 == usize::from(domain.least))
-    }),
-    Special("only domains, a letter that is not admitted", |against| {
-        against.first_domain(|text, domain| {
-            has_other_letter(text, domain) && !is_too_short(text, domain)
-        })
-    }),
-    Special("only domains, the last letter alone", |against| {
-        against.first_domain(|text, domain| {
-            let before = text.len().saturating_sub(1);
-            !is_too_short(text, domain)
-                && has_other_letter(text, domain)
-                && !has_other_letter(&text[..before], domain)
-        })
-    }),
-    Special("only domains, and no letter admitted", |against| {
-        against.first_domain(|_, domain| domain.set == 0)
-    }),
-    Special("a rule that breaks, and a domain", |against| {
-        against.pairs.is_empty() && !against.rules.is_empty() && !against.fields.is_empty()
-    }),
-    Special("a pair that differs, and a domain that breaks", |against| {
-        !against.pairs.is_empty() && !against.fields.is_empty()
-    }),
-    Special(
-        "a pair that differs, and domains that are kept",
-        |against| !against.pairs.is_empty() && against.has_domains && against.fields.is_empty(),
-    ),
-    Special("a rule that breaks, and domains that are kept", |against| {
-        against.pairs.is_empty()
-            && !against.rules.is_empty()
-            && against.has_domains
-            && against.fields.is_empty()
-    }),
-];
-
 /// How many letters agree from the start.
 fn agreeing(left: &[u8], right: &[u8]) -> usize {
     speller::compare(left, right).agreeing
@@ -307,7 +201,7 @@ fn parted(left: &[u8], right: &[u8]) -> bool {
 }
 
 fn special() -> impl Iterator<Item = &'static Special> {
-    OF_TEXTS.iter().chain(&OF_ALL).chain(&OF_DOMAINS)
+    OF_TEXTS.iter().chain(&OF_ALL)
 }
 
 /// A tally of all that may be special.

@@ -1,10 +1,10 @@
 //! A plain writer of clause files, written from document 01 ("Counting", "Writing line n", "Clauses")
-//! and document 02, Nos. 4 and 7, alone. The library's answers are compared with it. It knows nothing of the
+//! and document 02, No. 4, alone. The library's answers are compared with it. It knows nothing of the
 //! library: a variable's number is its place in a list of all variables, a clause is built in document
 //! 01's words before anything is left out of it, and a file's size is the length of the lines that it
 //! has written.
 
-use crate::reader::{self, Domain, Pair, Rule, Sheet, Symbol};
+use crate::reader::{self, Pair, Rule, Sheet, Symbol};
 use crate::refusal::Refusal;
 use std::collections::HashMap;
 use std::io::{self, Write};
@@ -23,13 +23,11 @@ pub struct Line {
 }
 
 /// Line 0 and the clauses, by the variables that they define and document 01's letters.
-pub const KINDS: [&str; 15] = [
+pub const KINDS: [&str; 13] = [
     "line 0",
     "K, one of all values",
     "K, not two values",
     "K, blank tail",
-    "K, letter not admitted",
-    "K, not blank",
     "S, first location",
     "S, B",
     "S, C",
@@ -313,8 +311,7 @@ pub trait Clauses {
     /// All clauses of a sheet.
     fn sheet(&mut self, sheet: &Sheet) {
         for (field, &limit) in sheet.limits.iter().enumerate() {
-            let domain = sheet.domain(field);
-            self.places(field, usize::from(limit), sheet.letters.len(), domain);
+            self.places(field, usize::from(limit), sheet.letters.len());
         }
         for (number, pair) in sheet.pairs.iter().enumerate() {
             self.pair(sheet, number, pair);
@@ -324,9 +321,8 @@ pub trait Clauses {
         }
     }
 
-    /// The clauses of a field's places, for `l` letters. Those against what its domain does not admit come
-    /// last at each place.
-    fn places(&mut self, f: usize, limit: usize, l: usize, domain: Domain) {
+    /// The clauses of a field's places, for `l` letters.
+    fn places(&mut self, f: usize, limit: usize, l: usize) {
         for c in 0..limit {
             let all: Vec<Literal> = (0..=l).map(|a| Is(K(f, c, a))).collect();
             self.clause("K, one of all values", &all);
@@ -337,12 +333,6 @@ pub trait Clauses {
             }
             if c + 1 < limit {
                 self.clause("K, blank tail", &[Not(K(f, c, l)), Is(K(f, c + 1, l))]);
-            }
-            for a in (0..l).filter(|&a| !domain.admits(a)) {
-                self.clause("K, letter not admitted", &[Not(K(f, c, a))]);
-            }
-            if c < usize::from(domain.least) {
-                self.clause("K, not blank", &[Not(K(f, c, l))]);
             }
         }
     }

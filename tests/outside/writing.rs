@@ -2,10 +2,7 @@
 
 use crate::changes::each_value_of_each_byte;
 use crate::random::Random;
-use crate::reader::{
-    self, Domain, Pair, Rule, Sheet, Symbol, Template, GREATEST_LIMIT, GREATEST_WIDTH, MOST_FIELDS,
-    MOST_SYMBOLS,
-};
+use crate::reader::{self, Pair, Rule, Sheet, Symbol, Template, GREATEST_WIDTH, MOST_SYMBOLS};
 use crate::report::{require, Hex};
 use crate::sheets;
 use crate::test::Test;
@@ -14,7 +11,7 @@ use crate::writer::{self, File, Line, Written};
 const SMALL: usize = 4000;
 const OF_ALL_SIZES: usize = 60;
 const LARGEST: usize = 6;
-const LOOKED_INTO: usize = 2800;
+const LOOKED_INTO: usize = 2500;
 const LINES_LOOKED_INTO: usize = 40;
 const DAMAGED: usize = 40_000;
 const TWINS_PERCENT: usize = 8;
@@ -26,7 +23,7 @@ const ALSO_SHORT_PERCENT: usize = 10;
 pub const ROOMY: usize = 80;
 
 pub fn run(test: &mut Test) {
-    test.part("known clause files", known_file);
+    test.part("document 01's clause file of P", known_file);
     test.part("all line numbers and buffers", all_numbers);
     test.part("lines, one byte of the sheet changed", small_changes);
     test.part("all lines of small sheets", small);
@@ -70,54 +67,7 @@ fn known_file(test: &mut Test) {
         &[("counts", &format!("{counts:?}"))],
     );
     every_line(test, &written, 100);
-    for (sheet, due) in KNOWN_FIELDS {
-        let written = writer::write(sheet);
-        let lines = &accepted(&written).lines[1..];
-        let clauses: Vec<u8> = lines.iter().flat_map(|line| line.bytes.clone()).collect();
-        require(
-            clauses.starts_with(due.as_bytes()),
-            "a known file starts otherwise",
-            &[
-                ("sheet", &Hex(sheet)),
-                ("clauses", &String::from_utf8_lossy(&clauses)),
-                ("due", &due),
-            ],
-        );
-        every_line(test, &written, 100);
-    }
 }
-
-/// Sheets of version 2, each with the clauses of its fields, which come first: worked out from documents 01
-/// and 02, No. 7.
-const KNOWN_FIELDS: [(&[u8], &str); 6] = [
-    // P, with everything admitted.
-    (sheets::P_2, "1 2 0\n-1 -2 0\n3 0\n"),
-    // P with least length 1, with no letter, and with both.
-    (
-        b"TPL\0\x02\x01\x01\x01\0A\x01\x01\x01\x01\x01\x80\0",
-        "1 2 0\n-1 -2 0\n-2 0\n3 0\n",
-    ),
-    (
-        b"TPL\0\x02\x01\x01\x01\0A\x01\0\0\x01\x01\x80\0",
-        "1 2 0\n-1 -2 0\n-1 0\n3 0\n",
-    ),
-    (
-        b"TPL\0\x02\x01\x01\x01\0A\x01\x01\0\x01\x01\x80\0",
-        "1 2 0\n-1 -2 0\n-1 0\n-2 0\n3 0\n",
-    ),
-    // Letters A, B and C and a field of limit 2: at least one letter, of B alone.
-    (
-        b"TPL\0\x02\x03\x01\x01\0ABC\x02\x01\x02\0\0",
-        "1 2 3 4 0\n-1 -2 0\n-1 -3 0\n-1 -4 0\n-2 -3 0\n-2 -4 0\n-3 -4 0\n-4 8 0\n-1 0\n-3 0\n-4 0\n\
-         5 6 7 8 0\n-5 -6 0\n-5 -7 0\n-5 -8 0\n-6 -7 0\n-6 -8 0\n-7 -8 0\n-5 0\n-7 0\n9 0\n",
-    ),
-    // A letter and fields of limits 0, 2 and 1: the first with no letter, the second of two letters, the
-    // third without one.
-    (
-        b"TPL\0\x02\x01\x03\x01\0A\0\x02\x01\0\0\x02\x01\0\0\0\0",
-        "1 2 0\n-1 -2 0\n-2 4 0\n-2 0\n3 4 0\n-3 -4 0\n-4 0\n5 6 0\n-5 -6 0\n-5 0\n7 0\n",
-    ),
-];
 
 /// The file of a sheet that is known to be accepted.
 pub fn accepted(written: &Written) -> &File {
@@ -141,16 +91,9 @@ fn rooms(length: usize) -> [usize; 8] {
 
 /// Each line number with each buffer.
 fn all_numbers(test: &mut Test) {
-    let [fullest, fullest_2] = fullest().map(|sheet| sheets::encode(&sheet));
+    let fullest = sheets::encode(&fullest());
     let empty = b"TPL\0\x01\x01\0\x01\0A\0\0";
-    for sheet in [
-        empty,
-        sheets::P,
-        sheets::MIDDLE,
-        sheets::MIDDLE_2,
-        &fullest,
-        &fullest_2,
-    ] {
+    for sheet in [empty, sheets::P, sheets::MIDDLE, &fullest] {
         let written = writer::write(sheet);
         for number in line_numbers(accepted(&written).clauses() as u64) {
             for room in rooms(length(&written, number)) {
@@ -172,15 +115,11 @@ fn length(written: &Written, number: u64) -> usize {
 
 /// Each value of each byte: all lines of what P becomes, some of what a sheet of middle size does.
 fn small_changes(test: &mut Test) {
-    for sheet in [sheets::P, sheets::P_2] {
-        for changed in each_value_of_each_byte(sheet) {
-            every_line(test, &writer::write(&changed), ALSO_SHORT_PERCENT);
-        }
+    for changed in each_value_of_each_byte(sheets::P) {
+        every_line(test, &writer::write(&changed), ALSO_SHORT_PERCENT);
     }
-    for sheet in [sheets::MIDDLE, sheets::MIDDLE_2] {
-        for changed in each_value_of_each_byte(sheet) {
-            some_lines(test, &writer::write(&changed), 10);
-        }
+    for changed in each_value_of_each_byte(sheets::MIDDLE) {
+        some_lines(test, &writer::write(&changed), 10);
     }
 }
 
@@ -210,42 +149,26 @@ fn of_all_sizes(test: &mut Test) {
     });
 }
 
-/// Sheets with every count at its greatest, and those with the most clauses.
+/// Sheets with every count at its greatest, and one with the most clauses.
 fn largest(test: &mut Test) {
     each_varied(test, LARGEST, sheets::largest, |test, written| {
         every_line(test, written, ALSO_SHORT_PERCENT)
     });
-    for (sheet, most) in fullest().iter().zip(MOST_CLAUSES) {
-        let written = writer::write(&sheets::encode(sheet));
-        let clauses = accepted(&written).clauses();
-        require(
-            clauses == most,
-            "the sheet with the most clauses has another number of them",
-            &[("clauses", &clauses), ("due", &most)],
-        );
-        every_line(test, &written, ALSO_SHORT_PERCENT);
-    }
+    let written = writer::write(&sheets::encode(&fullest()));
+    every_line(test, &written, ALSO_SHORT_PERCENT);
 }
 
-/// How many clauses a sheet of version 1 has at most, and one of version 2.
-const MOST_CLAUSES: [usize; 2] = [45_822, 46_254];
-
-/// A sheet of each version with the most clauses: templates of fields alone, all as wide as can be, and sums
-/// that are all above their rule's limit; in version 2 fields that admit nothing at any place.
-pub fn fullest() -> [Sheet; 2] {
+/// A sheet with the most clauses: templates of fields alone, all as wide as can be, and sums that are
+/// all above their rule's limit.
+pub fn fullest() -> Sheet {
     let template = |field| vec![Symbol::Field(field); 3];
     let rule = |coefficient| Rule {
         coefficients: vec![coefficient; 6],
         limit: i16::MIN,
     };
-    let nothing = Domain {
-        least: GREATEST_LIMIT,
-        set: 0,
-    };
-    [None, Some(vec![nothing; MOST_FIELDS])].map(|domains| Sheet {
+    Sheet {
         letters: b"ABCDEFGH".to_vec(),
-        limits: vec![GREATEST_LIMIT; MOST_FIELDS],
-        domains,
+        limits: vec![8; 6],
         pairs: [(5, 4), (3, 2), (5, 5), (2, 3)]
             .map(|(left, right)| Pair {
                 left: template(left),
@@ -253,7 +176,7 @@ pub fn fullest() -> [Sheet; 2] {
             })
             .to_vec(),
         rules: [4, -4, 4, -4].map(rule).to_vec(),
-    })
+    }
 }
 
 fn looked_into(test: &mut Test) {

@@ -1,16 +1,15 @@
 //! Says that a sheet is apart: what was asked, and what the answer rests on.
 
-use crate::form::{Field, Form, Pair, Symbol};
+use crate::form::{Form, Pair, Symbol};
 use crate::input::Input;
 use lunthegyr::Sheet;
 
 /// The verdict's lines.
 pub fn lines(input: &Input) -> Vec<String> {
     let pairs = input.form.pairs.len();
-    let asked = asked(&input.form);
-    let keeping = match asked {
-        "" => String::new(),
-        _ => format!(" and keep the {asked}"),
+    let keeping = match input.form.rules.is_empty() {
+        true => "",
+        false => " and keep the rules",
     };
     let all = match pairs {
         2 => "both pairs".to_string(),
@@ -25,13 +24,10 @@ ONE PAIR ALONE MAY STILL CLASH: to ask, put each pair alone on a sheet.
 "
         ),
     };
-    if !some_texts_are_allowed(&input.form) {
-        text += &format!(
-            "\
-NO TEXTS AT ALL KEEP THE {}, so this says nothing about the templates. Mend the {asked}.
-",
-            asked.to_uppercase()
-        );
+    if !rules_can_hold(&input.form) {
+        text += "\
+NO TEXTS AT ALL KEEP THE RULES, so this says nothing about the templates. Mend the rules.
+";
     }
     text += "\nWhat was asked, read back from the sheet's bytes:\n";
     for line in read_back(input).text().lines() {
@@ -39,16 +35,6 @@ NO TEXTS AT ALL KEEP THE {}, so this says nothing about the templates. Mend the 
     }
     text += &format!("\nWhat the answer rests on:\n{}", reasons(input));
     text.lines().map(str::to_string).collect()
-}
-
-/// What the texts have to keep: rules, kinds, both or nothing.
-fn asked(form: &Form) -> &'static str {
-    match (form.rules.is_empty(), form.kinds_matter()) {
-        (true, false) => "",
-        (false, false) => "rules",
-        (true, true) => "kinds",
-        (false, true) => "rules and kinds",
-    }
 }
 
 /// The sheet that the engine was given, with the names that its bytes do not know.
@@ -61,31 +47,18 @@ fn read_back(input: &Input) -> Form {
 }
 
 fn reasons(input: &Input) -> String {
-    let kinds = input.form.kinds_matter();
-    let of_kind = if kinds { " that keep the kinds" } else { "" };
     let mut text = format!(
         "\
 - The search's source is proved, for every accepted sheet, to find a clash if there is one
-  (search-answers-clash-exactly in crates/calls/proofs/Demands.antt). Fillings here{of_kind}: {}.
+  (search-answers-clash-exactly in crates/calls/proofs/Demands.antt). Fillings here: {}.
 - Longer texts and other templates are not covered.
 ",
-        fillings(&input.form)
+        fillings(input)
     );
-    if kinds {
+    if !input.form.rules.is_empty() {
         text += "\
-- Only the letters that are listed were considered. Another one is sure to make no difference only where some
-  listed letter is in the set of every field that may hold it: list at least one letter of each sort.
+- It counts only where panels always keep the rules. Nothing here makes them keep them.
 ";
-    }
-    match asked(&input.form) {
-        "" => {}
-        asked => {
-            text += &format!(
-                "\
-- It counts only where panels always keep the {asked}. Nothing here makes them keep them.
-"
-            )
-        }
     }
     for name in on_both_sides(&input.form) {
         text += &format!(
@@ -102,12 +75,11 @@ fn reasons(input: &Input) -> String {
     text
 }
 
-/// Whether any texts keep the rules and kinds. The engine is asked, with two empty templates as the only pair.
-pub fn some_texts_are_allowed(form: &Form) -> bool {
+/// Whether any texts keep the rules. The engine is asked, with two empty templates as the only pair.
+pub fn rules_can_hold(form: &Form) -> bool {
     let alone = Form {
         letters: form.letters.clone(),
         fields: form.fields.clone(),
-        kinds: form.kinds.clone(),
         pairs: vec![Pair {
             left: Vec::new(),
             right: Vec::new(),
@@ -130,16 +102,20 @@ fn on_both_sides(form: &Form) -> Vec<&str> {
     fields.map(|(_, field)| field.name.as_str()).collect()
 }
 
-/// How many fillings there are that keep the kinds.
-fn fillings(form: &Form) -> String {
-    let texts = |(number, field): (usize, &Field)| {
-        let kind = form.kind(number);
-        let letters = f64::from(kind.letters.count_ones());
-        (u64::from(kind.least)..=field.limit)
+/// How many fillings there are.
+fn fillings(input: &Input) -> String {
+    let letters = input.form.letters.len() as f64;
+    let texts = |limit: u64| {
+        (0..=limit)
             .map(|length| letters.powi(length as i32))
             .sum::<f64>()
     };
-    let all: f64 = form.fields.iter().enumerate().map(texts).product();
+    let all: f64 = input
+        .form
+        .fields
+        .iter()
+        .map(|field| texts(field.limit))
+        .product();
     // Up to there a float holds every whole number.
     if all < 9e15 {
         in_threes(all as u64)

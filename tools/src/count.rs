@@ -3,7 +3,6 @@
 
 use crate::form::Form;
 use crate::input::Input;
-use crate::kind;
 use crate::ticks::{Kind, OfField, OfPair, OfRule, Sums, Tick, Ticks};
 use crate::verdict;
 use lunthegyr::{calls, ClauseCounts, Sheet, LINE_MOST};
@@ -140,11 +139,7 @@ fn together(sum: u64) -> [Row; 2] {
 
 fn field(form: &Form, number: usize, ticks: &OfField) -> Vec<Row> {
     let field = &form.fields[number];
-    let mut title = format!("field {}, limit {}", field.name, field.limit);
-    let kind = form.kind(number);
-    if form.kinds.is_some() {
-        title += &format!(", {}", kind::in_words(kind, &form.letters));
-    }
+    let title = format!("field {}, limit {}", field.name, field.limit);
     let mut rows = vec![
         row(title, Numbers::Head("places")),
         case("Holds a value", "", ticks.holds),
@@ -155,20 +150,6 @@ fn field(form: &Form, number: usize, ticks: &OfField) -> Vec<Row> {
             ticks.blank,
         ),
     ];
-    // In version 1 there are no kinds, and so none of these.
-    if form.kinds.is_some() {
-        let letters = format!("L-{}", kind.letters.count_ones());
-        rows.push(case(
-            "Not a letter outside the set",
-            &letters,
-            ticks.not_admitted,
-        ));
-        rows.push(case(
-            "Not blank below the least length",
-            "",
-            ticks.not_blank,
-        ));
-    }
     rows.extend(together(ticks.clauses()));
     rows
 }

@@ -86,7 +86,7 @@ pub fn kind_of_text(text: &str) -> Result<Option<Kind>, Fault> {
         let word = line.word();
         let kind = match word.as_str() {
             "template" | "hours" => Kind::Book,
-            "field" | "pair" | "rule" | "version" => Kind::Sheet,
+            "field" | "pair" | "rule" => Kind::Sheet,
             _ => continue,
         };
         match &known {

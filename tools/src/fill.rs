@@ -41,13 +41,13 @@ pub fn verdict(input: &Input, filling: &Filling) -> Result<(bool, Vec<String>), 
     let checked = input.sheet.check(filling);
     let checked = checked.map_err(|refusal| format!("{refusal}{}", too_long(input, filling)))?;
     let fields = 0..input.form.fields.len();
-    let fields: Vec<&[u8]> = fields.map(|field| filling.letters(field)).collect();
+    let lengths: Vec<usize> = fields.map(|field| filling.letters(field).len()).collect();
     let pairs = 0..input.form.pairs.len();
     let pairs: Vec<Texts> = pairs.map(|pair| texts(input, filling, pair)).collect();
-    let expected = cause::expected(&pairs, &input.form, &fields);
-    let mut lines = empty(input, &fields);
+    let expected = cause::expected(&pairs, &input.form.rules, &lengths);
+    let mut lines = empty(input, &lengths);
     lines.extend(match checked == expected {
-        true => told(input, checked, &pairs, &fields),
+        true => told(input, checked, &pairs, &lengths),
         false => doubted(input, checked, expected, &pairs),
     });
     Ok((checked == expected, lines))
@@ -63,9 +63,9 @@ fn texts(input: &Input, filling: &Filling, pair: usize) -> Texts {
 }
 
 /// Which fields are empty, if any.
-fn empty(input: &Input, fields: &[&[u8]]) -> Vec<String> {
-    let fields = input.form.fields.iter().zip(fields);
-    let empty = fields.filter(|(_, letters)| letters.is_empty());
+fn empty(input: &Input, lengths: &[usize]) -> Vec<String> {
+    let fields = input.form.fields.iter().zip(lengths);
+    let empty = fields.filter(|(_, &length)| length == 0);
     let names: Vec<&str> = empty.map(|(field, _)| field.name.as_str()).collect();
     match names.is_empty() {
         true => Vec::new(),
@@ -73,9 +73,8 @@ fn empty(input: &Input, fields: &[&[u8]]) -> Vec<String> {
     }
 }
 
-/// All pairs, with what is left over under the first that differs; then the first rule that does not hold or the first kind that is not kept, if that is
-/// why; and the verdict.
-fn told(input: &Input, checked: Checked, pairs: &[Texts], fields: &[&[u8]]) -> Vec<String> {
+/// All pairs, with what is left over under the first that differs; then the first rule that does not hold, if that is why; and the verdict.
+fn told(input: &Input, checked: Checked, pairs: &[Texts], lengths: &[usize]) -> Vec<String> {
     let mut lines = Vec::new();
     for (number, texts) in pairs.iter().enumerate() {
         lines.extend(cause::pair(input, number, texts));
@@ -95,12 +94,8 @@ fn told(input: &Input, checked: Checked, pairs: &[Texts], fields: &[&[u8]]) -> V
             "no clash with these texts; others may clash, and `check` asks about all"
         }
         Checked::NoClash(Cause::RuleBroken { rule }) => {
-            lines.extend(cause::rule(input, rule, &cause::lengths(fields)));
+            lines.extend(cause::rule(input, rule, lengths));
             "THE TEXTS ARE THE SAME, and it is no clash only because a rule does not hold"
-        }
-        Checked::NoClash(Cause::KindBroken { field }) => {
-            lines.extend(cause::kind(input, field, fields[field]));
-            "THE TEXTS ARE THE SAME, and it is no clash only because a field's text is not of its kind"
         }
     };
     lines.push(verdict.to_string());
@@ -157,19 +152,11 @@ rule len(x) = len(y)
 rule len(x) + len(y) > 0
 ";
 
-    const WITH_KINDS: &str = "\
-letters A B
-field x 3 least 1 letters A
-field y 3 letters B A
-pair {x} = {y}
-rule len(x) <= 2
-";
-
-    fn sheet(text: &str) -> Input {
+    fn sheet() -> Input {
         let file = File {
             name: "sheet".to_string(),
             kind: Kind::Sheet,
-            content: Content::Text(text.to_string()),
+            content: Content::Text(SHEET.to_string()),
         };
         input::of(file).unwrap()
     }
@@ -188,9 +175,9 @@ rule len(x) <= 2
         (last.to_string(), marked)
     }
 
-    /// How each verdict on the texts of x and y ends, and how often that is so.
-    fn outlines(text: &str) -> impl Fn(&str, bool) -> usize {
-        let input = sheet(text);
+    #[test]
+    fn what_the_engine_says_fits_its_texts() {
+        let input = sheet();
         let mut outlines = Vec::new();
         for x in all_texts() {
             for y in all_texts() {
@@ -200,27 +187,13 @@ rule len(x) <= 2
                 outlines.push(outline(&lines));
             }
         }
-        move |last: &str, marked| {
+        let count = |last: &str, marked| {
             let one = (last.to_string(), marked);
             outlines.iter().filter(|&outline| *outline == one).count()
-        }
-    }
-
-    #[test]
-    fn what_the_engine_says_fits_its_texts() {
-        let count = outlines(SHEET);
+        };
         // A and AA clash; nothing and AAA break a rule; and of 15 texts for each field all others differ.
         assert_eq!(count("clash", false), 2);
         assert_eq!(count("THE", false), 2);
         assert_eq!(count("no", true), 15 * 15 - 4);
-    }
-
-    #[test]
-    fn what_the_engine_says_of_kinds_fits_its_texts() {
-        let count = outlines(WITH_KINDS);
-        // A and AA clash; 13 other texts break the rule or the kind of x; and all others differ.
-        assert_eq!(count("clash", false), 2);
-        assert_eq!(count("THE", false), 13);
-        assert_eq!(count("no", true), 15 * 14);
     }
 }

@@ -1,15 +1,11 @@
 //! A sheet by its parts, with a name for each field; and the bytes that say the same, each with the part that it comes from.
 //! Nothing is judged here: parts that no sheet may have get bytes that the engine refuses.
 
-use lunthegyr::Kind;
-
 /// What a sheet says.
 pub struct Form {
     /// The letters' bytes.
     pub letters: Vec<u8>,
     pub fields: Vec<Field>,
-    /// In version 2 the kind of each field; version 1 has none.
-    pub kinds: Option<Vec<Kind>>,
     pub pairs: Vec<Pair>,
     pub rules: Vec<Rule>,
 }
@@ -57,9 +53,6 @@ pub enum Part {
     RuleCount,
     Letter(usize),
     Limit(usize),
-    /// Of a field's kind, the least length and the set of letters.
-    Least(usize),
-    LetterSet(usize),
     SymbolCount(usize, Side),
     /// Of a pair, a side, the symbol of a number.
     Symbol(usize, Side, usize),
@@ -69,9 +62,7 @@ pub enum Part {
 }
 
 const MARK: &[u8] = b"TPL";
-/// The version of a sheet without kinds, and of one with them.
-const PLAIN: u16 = 1;
-const WITH_KINDS: u16 = 2;
+const VERSION: u16 = 1;
 /// Field f is the symbol 128 + f.
 const FIRST_FIELD_SYMBOL: usize = 128;
 
@@ -101,8 +92,7 @@ impl Form {
     /// the engine refuses like the number itself.
     pub fn bytes(&self) -> Vec<(u8, Part)> {
         let mut bytes: Vec<(u8, Part)> = MARK.iter().map(|&byte| (byte, Part::Mark)).collect();
-        let version = self.kinds.as_ref().map_or(PLAIN, |_| WITH_KINDS);
-        bytes.extend(version.to_be_bytes().map(|byte| (byte, Part::Version)));
+        bytes.extend(VERSION.to_be_bytes().map(|byte| (byte, Part::Version)));
         bytes.push((count(self.letters.len()), Part::LetterCount));
         bytes.push((count(self.fields.len()), Part::FieldCount));
         bytes.push((count(self.pairs.len()), Part::PairCount));
@@ -112,10 +102,6 @@ impl Form {
         }
         for (number, field) in self.fields.iter().enumerate() {
             bytes.push((field.limit.min(255) as u8, Part::Limit(number)));
-        }
-        for (number, kind) in self.kinds.iter().flatten().enumerate() {
-            bytes.push((kind.least, Part::Least(number)));
-            bytes.push((kind.letters, Part::LetterSet(number)));
         }
         for (number, pair) in self.pairs.iter().enumerate() {
             for side in [Side::Left, Side::Right] {
@@ -146,29 +132,13 @@ impl Form {
         self.bytes().into_iter().map(|row| row.0).collect()
     }
 
-    /// The kind of a field.
-    pub fn kind(&self, field: usize) -> Kind {
-        let any = Kind::any(self.letters.len());
-        self.kinds.as_ref().map_or(any, |kinds| kinds[field])
-    }
-
-    /// Whether a kind keeps some field from a text up to its limit. In version 2 there may be kinds that do not.
-    pub fn kinds_matter(&self) -> bool {
-        let any = Kind::any(self.letters.len());
-        self.kinds.iter().flatten().any(|&kind| kind != any)
-    }
-
     /// Reads the bytes of a sheet that the engine has accepted. Bytes know no names, so fields are f0, f1 and so on.
     pub fn of_accepted(sheet: &[u8]) -> Form {
-        let mut bytes = Accepted {
-            rest: &sheet[MARK.len()..],
-        };
-        let version = u16::from_be_bytes([0; 2].map(|_| bytes.number() as u8));
+        let mut bytes = Accepted { rest: &sheet[5..] };
         let [l, v, e, r] = [(); 4].map(|()| bytes.number());
         Form {
             letters: bytes.take(l).to_vec(),
             fields: (0..v).map(|number| bytes.field(number)).collect(),
-            kinds: (version == WITH_KINDS).then(|| (0..v).map(|_| bytes.kind()).collect()),
             pairs: (0..e).map(|_| bytes.pair()).collect(),
             rules: (0..r).map(|_| bytes.rule(v)).collect(),
         }
@@ -224,14 +194,6 @@ impl<'a> Accepted<'a> {
         Field {
             name: format!("f{number}"),
             limit: self.number() as u64,
-        }
-    }
-
-    fn kind(&mut self) -> Kind {
-        let kind = self.take(2);
-        Kind {
-            least: kind[0],
-            letters: kind[1],
         }
     }
 

@@ -104,11 +104,6 @@ fn refused(form: &Form, places: &Places, refusal: Refusal, part: Option<Part>) -
             format!("{} here, a rule with `=` counted as two", form.rules.len())
         }
         (Refusal::Letter, _) => letters::rising(&form.letters),
-        (Refusal::LeastLength, Some(Part::Least(field))) => {
-            let limit = form.fields[field].limit;
-            let name = &form.fields[field].name;
-            format!("the limit of `{name}` is {limit}")
-        }
         (Refusal::Width, Some(Part::Symbol(pair, ..) | Part::SymbolCount(pair, _))) => {
             place = places.pairs[pair].start;
             let sides = [&form.pairs[pair].left, &form.pairs[pair].right];

@@ -56,15 +56,10 @@ pub fn rising(letters: &[u8]) -> String {
 
 /// Reads a letter of a template, which has to be one of these.
 pub fn symbol(line: &mut Line, letters: &[u8]) -> Result<Symbol, Fault> {
-    number(line, letters).map(Symbol::Letter)
-}
-
-/// Reads a letter, which has to be one of these, and answers its number.
-pub fn number(line: &mut Line, letters: &[u8]) -> Result<usize, Fault> {
     let place = line.place();
     let letter = line.letter()?;
     match letters.iter().position(|&known| known == letter) {
-        Some(number) => Ok(number),
+        Some(number) => Ok(Symbol::Letter(number)),
         None => fault_at(
             place,
             format!("`{}` is not on the line of letters", char::from(letter)),

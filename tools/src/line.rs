@@ -127,15 +127,6 @@ impl Line {
         self.run(|c| c.is_ascii_alphanumeric() || c == '_')
     }
 
-    /// Whether one of these words comes next, which is not passed.
-    pub fn comes(&mut self, words: &[&str]) -> bool {
-        self.peek();
-        let start = self.at;
-        let word = self.word();
-        self.at = start;
-        words.contains(&word.as_str())
-    }
-
     /// Such a word, with dashes in it or after it too.
     pub fn dashed(&mut self) -> String {
         let word = self.word();

@@ -11,7 +11,6 @@ mod fill;
 mod form;
 mod hours;
 mod input;
-mod kind;
 mod letters;
 mod line;
 mod opinion;
@@ -166,7 +165,7 @@ fn check_one(file: &str, solver: Option<&str>) -> Result<u8, Failure> {
     }
     Ok(match found {
         Some(_) => CLASH,
-        None if apart::some_texts_are_allowed(&input.form) => APART,
+        None if apart::rules_can_hold(&input.form) => APART,
         None => FAULT,
     })
 }

@@ -1,22 +1,18 @@
-//! Reads the text form of a sheet. A line starts with one of five words:
+//! Reads the text form of a sheet. A line starts with one of four words:
 //!
 //!     letters 0 1 2 A                       the letters, in the order of their ASCII numbers
 //!     field shop1 4                         a field and its limit, the most letters that its text may have
-//!     field shop1 4 least 4 letters 0 1     the same with a kind, which `kind.rs` reads
 //!     pair A{shop1}{zone1} = A{shop2}       two templates: letters, and fields in braces
 //!     rule len(shop1) + len(zone1) >= 5     a rule over the lengths of fields' texts
-//!     version 2                             the version of the bytes, which has to be said only where it is 2 and no field has a kind
 //!
 //! Spaces count for nothing, a `#` at the start of a line or after a space starts a comment, and `\` before one of `{ } = # \` makes it a letter. Fields and letters
 //! may stand after what uses them. What a sheet may have is not judged here: the engine does that.
 
 use crate::form::{Field, Form, Pair, Rule, Symbol};
-use crate::kind;
 use crate::letters;
 use crate::line::{fault_at, Line};
 use crate::rule;
 use crate::source::{Fault, PairPlaces, Place, Places, RulePlaces};
-use lunthegyr::Kind;
 
 /// A sheet's text as it was read.
 pub struct Read {
@@ -26,21 +22,15 @@ pub struct Read {
 
 /// Lines whose words are to be read once all letters and fields are known.
 struct Later {
-    /// From the word on with which the kind of a field of this number starts.
-    kinds: Vec<(usize, Line)>,
     pairs: Vec<Line>,
     rules: Vec<Line>,
-    /// The version that is said, and where.
-    version: Option<(i64, Place)>,
 }
 
 pub fn parse(text: &str) -> Result<Read, Fault> {
     let mut read = Read::empty(text);
     let mut later = Later {
-        kinds: Vec::new(),
         pairs: Vec::new(),
         rules: Vec::new(),
-        version: None,
     };
     for (number, text) in text.lines().enumerate() {
         let mut line = Line::new(text, number + 1);
@@ -49,7 +39,6 @@ pub fn parse(text: &str) -> Result<Read, Fault> {
         }
     }
     letters::needed(&read.form.letters, read.places.end)?;
-    read.kinds(later.kinds, later.version)?;
     for line in later.pairs {
         read.pair(line)?;
     }
@@ -64,7 +53,6 @@ impl Read {
         let form = Form {
             letters: Vec::new(),
             fields: Vec::new(),
-            kinds: None,
             pairs: Vec::new(),
             rules: Vec::new(),
         };
@@ -72,7 +60,6 @@ impl Read {
             letters: Vec::new(),
             fields: Vec::new(),
             limits: Vec::new(),
-            kinds: Vec::new(),
             pairs: Vec::new(),
             rules: Vec::new(),
             end: Place::end_of(text),
@@ -89,21 +76,20 @@ impl Read {
                 &mut self.form.letters,
                 &mut self.places.letters,
             )?,
-            "field" => self.field(line, later)?,
+            "field" => self.field(line)?,
             "pair" => later.pairs.push(line),
             "rule" => later.rules.push(line),
-            "version" => version(start, line, &mut later.version)?,
             _ => {
                 return fault_at(
                     start,
-                    "a line starts with `letters`, `field`, `pair`, `rule` or `version`",
+                    "a line starts with `letters`, `field`, `pair` or `rule`",
                 )
             }
         }
         Ok(())
     }
 
-    fn field(&mut self, mut line: Line, later: &mut Later) -> Result<(), Fault> {
+    fn field(&mut self, mut line: Line) -> Result<(), Fault> {
         let (name, start) = line.field_name()?;
         if let Some(number) = self.named(&name) {
             let first = self.places.fields[number].line;
@@ -118,40 +104,7 @@ impl Read {
         self.form.fields.push(Field { name, limit });
         self.places.fields.push(start);
         self.places.limits.push(place);
-        self.places.kinds.push([place; 2]);
-        if line.comes(&kind::WORDS) {
-            later.kinds.push((self.form.fields.len() - 1, line));
-            return Ok(());
-        }
         line.end("the limit")
-    }
-
-    /// The kinds of the fields. A text has them where a field has one, or where it says that its version is 2.
-    fn kinds(
-        &mut self,
-        lines: Vec<(usize, Line)>,
-        version: Option<(i64, Place)>,
-    ) -> Result<(), Fault> {
-        if lines.is_empty() && version.map_or(true, |(number, _)| number == 1) {
-            return Ok(());
-        }
-        let mut kinds = vec![Kind::any(self.form.letters.len()); self.form.fields.len()];
-        for (number, mut line) in lines {
-            line.peek();
-            let place = line.place();
-            let name = &self.form.fields[number].name;
-            let read = kind::read(line, name, &self.form.letters)?;
-            if let Some((1, said)) = version {
-                return fault_at(
-                    place,
-                    format!("a sheet of version 1 has no kinds of field, and version 1 is said on line {}", said.line),
-                );
-            }
-            kinds[number] = read.kind;
-            self.places.kinds[number] = [read.least, read.letters];
-        }
-        self.form.kinds = Some(kinds);
-        Ok(())
     }
 
     /// The number of a field.
@@ -232,30 +185,4 @@ impl Read {
         }
         Ok(())
     }
-}
-
-/// The version that a line says, which only one may do.
-fn version(start: Place, mut line: Line, said: &mut Option<(i64, Place)>) -> Result<(), Fault> {
-    if let Some((_, first)) = said {
-        return fault_at(
-            start,
-            format!(
-                "a second line with a version; the first is line {}",
-                first.line
-            ),
-        );
-    }
-    line.peek();
-    let place = line.place();
-    *said = match line.number()? {
-        Some(number @ (1 | 2)) => Some((number, start)),
-        Some(number) => {
-            return fault_at(
-                place,
-                format!("no sheet has version {number}: it is 1, or 2 with kinds of field"),
-            )
-        }
-        None => return line.expected("the version of the sheet, 1 or 2"),
-    };
-    line.end("the version")
 }

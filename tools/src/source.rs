@@ -22,8 +22,6 @@ pub struct Places {
     pub letters: Vec<Place>,
     pub fields: Vec<Place>,
     pub limits: Vec<Place>,
-    /// Where the two parts of each field's kind stand, or its limit where it has none.
-    pub kinds: Vec<[Place; 2]>,
     pub pairs: Vec<PairPlaces>,
     pub rules: Vec<RulePlaces>,
     /// Where the text ends.
@@ -70,8 +68,6 @@ impl Places {
             Part::RuleCount => rule_start(rules),
             Part::Letter(number) => self.letters.get(number).copied(),
             Part::Limit(number) => self.limits.get(number).copied(),
-            Part::Least(number) => self.kinds.get(number).map(|places| places[0]),
-            Part::LetterSet(number) => self.kinds.get(number).map(|places| places[1]),
             Part::SymbolCount(pair, side) => self.pairs.get(pair).map(|pair| match side {
                 Left => pair.left.first().copied().unwrap_or(pair.start),
                 Right => pair.right.first().copied().unwrap_or(pair.start),

@@ -1,7 +1,7 @@
 //! How many clauses a sheet's clause file has, by the cases in which document 01 lists them: the places of a field, the locations of a pair,
-//! the sums of a rule. The cases of a location are those of document 02, No. 2, and those of a kind are its No. 7's. The engine is not asked here.
+//! the sums of a rule. The cases of a location are those of document 02, No. 2. The engine is not asked here.
 
-use crate::form::{Form, Pair, Rule, Symbol};
+use crate::form::{Field, Form, Pair, Rule, Symbol};
 use std::iter;
 
 /// So many of one case, with so many clauses each.
@@ -85,29 +85,20 @@ pub struct OfField {
     pub not_two: Tick,
     /// A blank goes on, at each place but the last.
     pub blank: Tick,
-    /// It holds no letter that the field's kind does not admit.
-    pub not_admitted: Tick,
-    /// It is not blank, at each place below the least length.
-    pub not_blank: Tick,
 }
 
 impl OfField {
-    fn new(form: &Form, number: usize) -> OfField {
-        let (l, limit) = (form.letters.len() as u64, form.fields[number].limit);
-        let kind = form.kind(number);
+    fn new(l: u64, field: &Field) -> OfField {
         let places = |many, each| Tick { many, each };
         OfField {
-            holds: places(limit, 1),
-            not_two: places(limit, l * (l + 1) / 2),
-            blank: places(limit.saturating_sub(1), 1),
-            not_admitted: places(limit, l - u64::from(kind.letters.count_ones())),
-            not_blank: places(kind.least.into(), 1),
+            holds: places(field.limit, 1),
+            not_two: places(field.limit, l * (l + 1) / 2),
+            blank: places(field.limit.saturating_sub(1), 1),
         }
     }
 
     pub fn clauses(&self) -> u64 {
-        let of_any = [self.holds, self.not_two, self.blank];
-        sum(&of_any) + sum(&[self.not_admitted, self.not_blank])
+        sum(&[self.holds, self.not_two, self.blank])
     }
 }
 
@@ -227,10 +218,10 @@ pub struct Ticks {
 impl Ticks {
     /// Counts the clauses of a sheet that the engine has accepted.
     pub fn of(form: &Form) -> Ticks {
-        let (pairs, rules) = (form.pairs.iter(), form.rules.iter());
-        let fields = 0..form.fields.len();
+        let l = form.letters.len() as u64;
+        let (fields, pairs, rules) = (form.fields.iter(), form.pairs.iter(), form.rules.iter());
         Ticks {
-            fields: fields.map(|number| OfField::new(form, number)).collect(),
+            fields: fields.map(|field| OfField::new(l, field)).collect(),
             pairs: pairs.map(|pair| OfPair::new(form, pair)).collect(),
             rules: rules.map(|rule| OfRule::new(form, rule)).collect(),
         }

@@ -2,10 +2,9 @@
 
 use crate::apart;
 use crate::draw::{self, Piece};
-use crate::form::{self, Field, Symbol};
+use crate::form::{self, Symbol};
 use crate::input::Input;
-use crate::kind;
-use lunthegyr::{Checked, Filling, Kind, Side};
+use lunthegyr::{Checked, Filling, Side};
 
 /// The clash that is found, or none, and the verdict's lines.
 pub fn of(input: &Input) -> (Option<Filling>, Vec<String>) {
@@ -48,18 +47,21 @@ fn clash(input: &Input, filling: &Filling) -> Vec<String> {
         1 => "both templates".to_string(),
         pairs => format!("both templates of each of the {pairs} pairs"),
     };
-    let kinds = input.form.kinds_matter();
-    let kept = match (input.form.rules.is_empty(), kinds) {
-        (true, false) => "",
-        (false, false) => ", and every rule holds",
-        (true, true) => ", and every kind holds",
-        (false, true) => ", and every rule and kind holds",
+    let rules = match input.form.rules.is_empty() {
+        true => "",
+        false => ", and every rule holds",
     };
-    let mut lines = vec![format!("clash: {with} {templates} spell the same{kept}")];
-    if !input.form.fields.is_empty() {
-        lines.push(String::new());
+    let mut lines = vec![format!("clash: {with} {templates} spell the same{rules}")];
+    let names = input.form.fields.iter();
+    let wide = names.map(|field| field.name.chars().count()).max();
+    for (number, field) in input.form.fields.iter().enumerate() {
+        if number == 0 {
+            lines.push(String::new());
+        }
+        let text = text(input, filling, number);
+        let wide = wide.unwrap_or(0);
+        lines.push(format!("  {:<wide$}  {}", field.name, or_empty(&text)));
     }
-    lines.extend(texts(input, filling, kinds));
     for number in 0..input.form.pairs.len() {
         lines.push(String::new());
         let line = input.line_of(|places| places.pairs[number].start);
@@ -67,63 +69,18 @@ fn clash(input: &Input, filling: &Filling) -> Vec<String> {
         lines.extend(drawn(input, filling, number, ["left", "right"]));
     }
     lines.push(String::new());
-    lines.extend(empty(input, filling));
+    let fields = input.form.fields.iter().enumerate();
+    let empty = fields.filter(|(number, _)| filling.letters(*number).is_empty());
+    if let Some((_, field)) = empty.last() {
+        lines.push(format!(
+            "A field may be empty, unless a rule says that it is not: rule len({}) >= 1",
+            field.name
+        ));
+    }
     lines.push(
         "This is the first clash; there may be others. After any change, ask again.".to_string(),
     );
     lines
-}
-
-/// The text of each field, with its kind where kinds are to be shown.
-fn texts(input: &Input, filling: &Filling, kinds: bool) -> Vec<String> {
-    let form = &input.form;
-    let texts = (0..form.fields.len()).map(|number| text(input, filling, number));
-    let texts: Vec<String> = texts.map(|text| or_empty(&text).to_string()).collect();
-    let names = form.fields.iter().map(|field| field.name.as_str());
-    let [name_wide, text_wide] = [
-        names.clone().map(|name| name.chars().count()).max(),
-        texts.iter().map(String::len).max(),
-    ]
-    .map(Option::unwrap_or_default);
-    let rows = names.zip(&texts).enumerate();
-    let row = |(number, (name, text)): (usize, (&str, &String))| match kinds {
-        false => format!("  {name:<name_wide$}  {text}"),
-        true => {
-            let kind = kind::in_words(form.kind(number), &form.letters);
-            format!("  {name:<name_wide$}  {text:<text_wide$}  {kind}")
-        }
-    };
-    rows.map(row).collect()
-}
-
-/// How the last of the fields that are empty, if some are, can be kept from it: by its kind on a sheet with kinds, else by a rule.
-fn empty(input: &Input, filling: &Filling) -> Vec<String> {
-    let form = &input.form;
-    let fields = form.fields.iter().enumerate();
-    let empty = fields.filter(|(number, _)| filling.letters(*number).is_empty());
-    if !form.kinds_matter() {
-        let by_rule = empty.last().map(|(_, field)| {
-            let name = &field.name;
-            format!(
-                "A field may be empty, unless a rule says that it is not: rule len({name}) >= 1"
-            )
-        });
-        return by_rule.into_iter().collect();
-    }
-    let can_be_longer =
-        |&(number, field): &(usize, &Field)| field.limit > 0 && form.kind(number).letters != 0;
-    let by_kind = empty.filter(can_be_longer).last().map(|(number, field)| {
-        let kind = Kind {
-            least: 1,
-            ..form.kind(number)
-        };
-        let kind = kind::written(kind, &form.letters);
-        [
-            "A field may be empty, unless its kind or a rule says that it is not:".to_string(),
-            format!("  field {} {}{kind}", field.name, field.limit),
-        ]
-    });
-    by_kind.into_iter().flatten().collect()
 }
 
 /// The text of a field.

@@ -30,10 +30,9 @@ pub struct ClauseCounts {
 /// Whether a filling clashes.
 #[derive(Clone, Copy, Debug, PartialEq, Eq, Hash)]
 pub enum Checked {
-    /// In every pair both templates spell the same text, every rule holds, and every field's text is of its kind.
+    /// In every pair both templates spell the same text, and every rule holds.
     Clash,
-    /// Some pair's templates spell different texts, or some rule does not hold, or some text is not of its field's kind; the cause tells the first of
-    /// these.
+    /// Some pair's templates spell different texts, or some rule does not hold; the cause tells the first of these.
     NoClash(Cause),
 }
 

@@ -9,7 +9,7 @@ use crate::Refusal;
 pub use crate::answers::{Checked, ClauseCounts, Counts, Searched};
 pub use crate::cause::Cause;
 
-/// Reads a sheet of any bytes: its counts, or one of the refusals 1 to 15, 46 and 47.
+/// Reads a sheet of any bytes: its counts, or one of the refusals 1 to 15.
 ///
 /// ```
 /// use lunthegyr::{calls, Refusal};
@@ -38,7 +38,7 @@ pub fn read(sheet: &[u8]) -> Result<Counts, Refusal> {
     })
 }
 
-/// Checks a filling of any bytes: whether it clashes, and why if it does not; or one of the refusals 1 to 15, 20 to 23, 46 and 47.
+/// Checks a filling of any bytes: whether it clashes, and why if it does not; or one of the refusals 1 to 15 and 20 to 23.
 ///
 /// ```
 /// use lunthegyr::calls::{self, Cause, Checked};
@@ -64,7 +64,7 @@ pub fn check(sheet: &[u8], filling: &[u8]) -> Result<Checked, Refusal> {
 }
 
 /// Spells the template of a pair (counted from 0) and a side (0 left, 1 right) under a filling, in the sheet's letters. Answers the text's
-/// length, with the text in the first bytes of `text` and the later ones as they were; or one of the refusals 1 to 15, 20 to 26, 46 and 47. Rules and kinds play no part.
+/// length, with the text in the first bytes of `text` and the later ones as they were; or one of the refusals 1 to 15 and 20 to 26.
 /// A buffer of [`TEXT_MOST`](crate::TEXT_MOST) is always long enough.
 ///
 /// ```
@@ -96,7 +96,7 @@ pub fn spell(
 
 /// Searches a sheet for a filling that clashes. Answers [`Searched::Clash`] with the first such filling, in the order that
 /// [`Sheet::search`](crate::Sheet::search) tells, in the first 9 bytes per field of `filling` and the later ones as they were; or
-/// [`Searched::Apart`] or one of the refusals 1 to 15, 27, 46 and 47, with all bytes as they were. A buffer of
+/// [`Searched::Apart`] or one of the refusals 1 to 15 and 27, with all bytes as they were. A buffer of
 /// [`FILLING_MOST`](crate::FILLING_MOST) is always long enough. The slowest sheets that are known take some hundredths of a second.
 ///
 /// ```
@@ -120,7 +120,7 @@ pub fn search(sheet: &[u8], filling: &mut [u8]) -> Result<Searched, Refusal> {
     }
 }
 
-/// Counts what is in a sheet's clause file, or gives one of the refusals 1 to 15, 46 and 47.
+/// Counts what is in a sheet's clause file, or gives one of the refusals 1 to 15.
 ///
 /// ```
 /// let counts = lunthegyr::calls::count(b"TPL\x00\x01\x01\x01\x01\x00A\x01\x01\x01\x80\x00")?;
@@ -146,7 +146,7 @@ pub fn count(sheet: &[u8]) -> Result<ClauseCounts, Refusal> {
 
 /// Writes one line of a sheet's clause file, with its line feed. Lines count from 0, `p cnf` and two counts, to the number of clauses.
 /// Answers the line's length, with the line in the first bytes of `text` and the later ones as they were; or one of the refusals 1 to 15,
-/// 28, 29, 46 and 47. A buffer of [`LINE_MOST`](crate::LINE_MOST) is always long enough.
+/// 28 and 29. A buffer of [`LINE_MOST`](crate::LINE_MOST) is always long enough.
 ///
 /// ```
 /// use lunthegyr::{calls, LINE_MOST};
@@ -167,7 +167,7 @@ pub fn line(sheet: &[u8], line: u64, text: &mut [u8]) -> Result<usize, Refusal> 
 }
 
 /// Writes a sheet's whole clause file, all lines one after the other. Answers the file's length, which is the [`bytes`](ClauseCounts::bytes)
-/// that [`count`] gives, with the file in the first bytes of `buffer` and the later ones as they were; or one of the refusals 1 to 15, 29, 46 and 47,
+/// that [`count`] gives, with the file in the first bytes of `buffer` and the later ones as they were; or one of the refusals 1 to 15 and 29,
 /// with all bytes as they were.
 ///
 /// ```
@@ -190,8 +190,8 @@ pub fn file(sheet: &[u8], buffer: &mut [u8]) -> Result<usize, Refusal> {
 }
 
 /// Reads a SAT solver's reply to a sheet's clause file, and believes none of it: what is accepted is a filling that clashes. It is put
-/// in the first 9 bytes per field of `filling`, and the later ones stay as they were. Or it gives one of the refusals 1 to 15, 27, 30 to 39,
-/// 46 and 47. A buffer of [`FILLING_MOST`](crate::FILLING_MOST) is always long enough.
+/// in the first 9 bytes per field of `filling`, and the later ones stay as they were. Or it gives one of the refusals 1 to 15, 27 and 30
+/// to 39. A buffer of [`FILLING_MOST`](crate::FILLING_MOST) is always long enough.
 ///
 /// ```
 /// use lunthegyr::{calls, Refusal, FILLING_MOST};
@@ -269,7 +269,7 @@ pub fn book_hours(book: &[u8], hours: &[u8], list: &mut [u8]) -> Result<usize, R
 #[cfg(test)]
 mod tests {
     use super::*;
-    use crate::samples::{sheet_of, BOOK, HOURS, KINDS, P, PAIRS_AND_RULES, P_FILE};
+    use crate::samples::{sheet_of, BOOK, HOURS, P, PAIRS_AND_RULES, P_FILE};
     use crate::{Filling, Side};
 
     const IS_A: [u8; 9] = [1, 0, 255, 255, 255, 255, 255, 255, 255];
@@ -489,65 +489,6 @@ mod tests {
         assert_eq!(checked(&[A; 3], &[A; 3]), broken(0));
         // A pair comes before a rule.
         assert_eq!(checked(&[A; 3], &[A, A, B]), differs(0, 2, Side::Left, 1));
-    }
-
-    #[test]
-    fn the_first_kind_that_is_broken_is_told_where_pairs_and_rules_hold() {
-        const C: u8 = 2;
-        let checked = |x: &[u8], y: &[u8]| {
-            let filling = Filling::from_letters(&[x, y]).unwrap();
-            check(&KINDS, filling.bytes()).unwrap()
-        };
-        let broken = |field| Checked::NoClash(Cause::KindBroken { field });
-        assert_eq!(checked(&[C], &[C]), Checked::Clash);
-        // Too short, a letter of the other field alone, and the other way round.
-        assert_eq!(checked(&[], &[]), broken(0));
-        assert_eq!(checked(&[B], &[B]), broken(0));
-        assert_eq!(checked(&[A], &[A]), broken(1));
-        // A pair and a rule come before a kind.
-        assert_eq!(checked(&[B], &[A]), differs(0, 0, Side::Left, 1));
-        let rule = Checked::NoClash(Cause::RuleBroken { rule: 0 });
-        assert_eq!(checked(&[B, B], &[B, B]), rule);
-    }
-
-    #[test]
-    fn every_refusal_of_a_kind_comes_through() {
-        let with = |offset: usize, byte: u8| {
-            let mut sheet = KINDS;
-            sheet[offset] = byte;
-            read(&sheet).map_err(Refusal::number)
-        };
-        assert_eq!(read(&KINDS).map(|counts| counts.fields), Ok(2));
-        for version in [0, 3] {
-            assert_eq!(with(4, version), Err(3));
-        }
-        assert_eq!(with(13, 9), Err(11));
-        assert_eq!(with(14, 4), Err(46));
-        assert_eq!(with(15, 8), Err(47));
-        assert_eq!(with(16, 3), Err(46));
-        assert_eq!(with(17, 0x80), Err(47));
-        assert_eq!(read(&KINDS[..17]), Err(Refusal::ByteMissing));
-    }
-
-    #[test]
-    fn searching_clauses_and_replies_keep_kinds() {
-        let mut filling = [0; 18];
-        assert_eq!(search(&KINDS, &mut filling), Ok(Searched::Clash));
-        let only = Filling::from_letters(&[&[2], &[2]]).unwrap();
-        assert_eq!(filling, only.bytes());
-        // The variables of place c of x are 4 c + 1 to 4 c + 4, and those of y follow from 13 on. Both are C, and both are A.
-        let replied = |x: u8, y: u8, filling: &mut [u8]| {
-            let text = format!("s SATISFIABLE\nv {x} 8 12 {y} 20 0\n");
-            reply(&KINDS, text.as_bytes(), filling)
-        };
-        assert_eq!(replied(1, 13, &mut filling), Err(Refusal::NoClash));
-        assert_eq!(replied(3, 15, &mut filling), Ok(()));
-        assert_eq!(filling, only.bytes());
-        // All letters and no least length, in the place of: two letters for three places, with one letter; two for two.
-        let mut all = KINDS;
-        all[14..18].copy_from_slice(&[0, 7, 0, 7]);
-        let [kept, free] = [KINDS, all].map(|sheet| count(&sheet).unwrap().clauses);
-        assert_eq!(kept, free + 3 + 1 + 2);
     }
 
     #[test]

@@ -1,7 +1,7 @@
 //! Why a filling does not clash: what the five numbers mean that the library's check writes.
 
 use crate::status::not_allowed;
-use crate::{Side, FIELDS_MOST, PAIRS_MOST, RULES_MOST, TEXT_MOST};
+use crate::{Side, PAIRS_MOST, RULES_MOST, TEXT_MOST};
 use std::fmt;
 
 /// How many numbers tell a cause, and these numbers.
@@ -9,7 +9,7 @@ pub const WHY_NUMBERS: usize = 5;
 pub type Why = [u64; WHY_NUMBERS];
 
 /// Why a filling does not clash: the first pair whose two texts differ; or else, where in every pair the two are the same, the first rule that
-/// does not hold; or else, where every rule holds too, the first field whose text is not of its kind. It prints in words.
+/// does not hold. It prints in words.
 ///
 /// ```
 /// use lunthegyr::{Cause, Side};
@@ -20,7 +20,6 @@ pub type Why = [u64; WHY_NUMBERS];
 /// assert_eq!(parting.to_string(), "the texts of pair 0 differ: 1 letter agrees, 1 is left over on the left");
 /// assert_eq!(ended.to_string(), "the texts of pair 0 differ: 2 letters agree, 1 is left over on the right");
 /// assert_eq!(Cause::RuleBroken { rule: 3 }.to_string(), "rule 3 does not hold");
-/// assert_eq!(Cause::KindBroken { field: 0 }.to_string(), "the text of field 0 is not of its kind");
 /// ```
 #[derive(Clone, Copy, Debug, PartialEq, Eq, Hash)]
 pub enum Cause {
@@ -39,12 +38,6 @@ pub enum Cause {
     RuleBroken {
         /// The rule; rules count from 0.
         rule: usize,
-    },
-    /// A field's text is shorter than its kind asks for, or has a letter that its kind does not admit; every pair's templates spell the same text, and
-    /// every rule holds.
-    KindBroken {
-        /// The field; fields count from 0.
-        field: usize,
     },
 }
 
@@ -71,9 +64,6 @@ impl Cause {
             }
             [2, rule, 0, 0, 0] => Some(Cause::RuleBroken {
                 rule: within(rule, 0, RULES_MOST - 1)?,
-            }),
-            [3, field, 0, 0, 0] => Some(Cause::KindBroken {
-                field: within(field, 0, FIELDS_MOST - 1)?,
             }),
             _ => None,
         }
@@ -103,9 +93,6 @@ impl fmt::Display for Cause {
                 write!(out, "the texts of pair {pair} differ: {agreeing} {agree}, {rest} {are} left over on the {side}")
             }
             Cause::RuleBroken { rule } => write!(out, "rule {rule} does not hold"),
-            Cause::KindBroken { field } => {
-                write!(out, "the text of field {field} is not of its kind")
-            }
         }
     }
 }
@@ -128,7 +115,6 @@ mod tests {
         assert_eq!(Cause::of([1, 3, 2, 0, 4]), differs(3, 2, Side::Left, 4));
         assert_eq!(Cause::of([1, 0, 4, 1, 2]), differs(0, 4, Side::Right, 2));
         assert_eq!(Cause::of([2, 3, 0, 0, 0]), Cause::RuleBroken { rule: 3 });
-        assert_eq!(Cause::of([3, 5, 0, 0, 0]), Cause::KindBroken { field: 5 });
     }
 
     #[test]
@@ -152,14 +138,13 @@ mod tests {
         match cause {
             1 => number <= 3 && side <= 1 && rest > 0 && text.map_or(false, |text| text <= 24),
             2 => number <= 3 && (agreeing, side, rest) == (0, 0, 0),
-            3 => number <= 5 && (agreeing, side, rest) == (0, 0, 0),
             _ => false,
         }
     }
 
     #[test]
     fn all_other_numbers_are_no_cause() {
-        let ends = [0, 1, 2, 3, 4, 5, 6, 23, 24, 25, 256, u64::MAX];
+        let ends = [0, 1, 2, 3, 4, 23, 24, 25, 256, u64::MAX];
         let mut causes = 0;
         for code in 0..ends.len().pow(5) as u32 {
             let why = [0, 1, 2, 3, 4]
@@ -182,9 +167,5 @@ mod tests {
             "the texts of pair 0 differ: 1 letter agrees, 1 is left over on the left"
         );
         assert_eq!(words(Cause::RuleBroken { rule: 1 }), "rule 1 does not hold");
-        assert_eq!(
-            words(Cause::KindBroken { field: 4 }),
-            "the text of field 4 is not of its kind"
-        );
     }
 }

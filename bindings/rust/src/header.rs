@@ -60,7 +60,7 @@ fn the_refusals_are_the_headers() {
 #[test]
 fn the_causes_are_the_headers() {
     // Numbers that are a cause of each kind.
-    let ours = [[1, 0, 0, 0, 1], [2, 0, 0, 0, 0], [3, 0, 0, 0, 0]].map(|why| {
+    let ours = [[1, 0, 0, 0, 1], [2, 0, 0, 0, 0]].map(|why| {
         let shown = format!("{:?}", Cause::of(why));
         let name = shown.split(' ').next().expect("a name comes first");
         (in_c(name), why[0])

@@ -33,10 +33,9 @@
 //! # Ok::<(), lunthegyr::Refusal>(())
 //! ```
 //!
-//! A sheet lists templates in pairs, and has rules; in version 2 it also has a [`Kind`] for each field, which says of which letters its texts are and how
-//! long at least. A filling clashes when in every pair both templates spell the same text, every rule of the sheet holds, and every field's text is of its
-//! kind. The repository's `docs/01-scope.md` ("document 01") defines the bytes of a sheet and of a filling, and what is refused;
-//! `docs/02-change-requests.md` ("document 02") does so for a book, its hours and the kinds of fields.
+//! A sheet lists templates in pairs, and has rules. A filling clashes when in every pair both templates spell the same text, and every rule of
+//! the sheet holds. The repository's `docs/01-scope.md` ("document 01") defines the bytes of a sheet and of a filling, and what is refused;
+//! `docs/02-change-requests.md` ("document 02") does so for a book and its hours.
 //!
 //! ```
 //! use lunthegyr::{Sheet, Side};
@@ -50,7 +49,7 @@
 //! ```
 //!
 //! [`Sheet::check`] says of texts of one's own whether they clash, and if they do not, where the first two texts part and what is left over, or
-//! which rule does not hold, or which text is not of its field's kind. [`Sheet::with_kinds`] gives a sheet's fields other kinds.
+//! which rule does not hold.
 //!
 //! [`Book`], [`Hours`], [`Sheet`] and [`Filling`] are for most uses. The module [`calls`] has the engine's ten calls over any bytes and lent
 //! buffers; it allocates nothing.
@@ -66,7 +65,6 @@ mod cause;
 mod engine;
 mod filling;
 mod hours;
-mod kind;
 mod refusal;
 mod sheet;
 mod sizes;
@@ -82,7 +80,6 @@ pub use book::{Book, Template};
 pub use cause::Cause;
 pub use filling::Filling;
 pub use hours::{Hours, Window};
-pub use kind::Kind;
 pub use refusal::Refusal;
 pub use sheet::Sheet;
 pub use sizes::*;

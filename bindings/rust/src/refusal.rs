@@ -1,4 +1,4 @@
-//! The refusals, with the numbers of document 01 and, of books, hours and kinds, of document 02, and with words for a person who writes sheets and books.
+//! The refusals, with the numbers of document 01 and, of books and hours, of document 02, and with words for a person who writes sheets and books.
 
 use std::fmt;
 
@@ -9,7 +9,7 @@ pub enum Refusal {
     UnderNineBytes = 1,
     /// 2: the sheet does not start with the bytes TPL.
     Mark = 2,
-    /// 3: the version is neither 1 nor 2.
+    /// 3: the version is not 1.
     Version = 3,
     /// 4: the letter count is out of range.
     LetterCount = 4,
@@ -87,15 +87,11 @@ pub enum Refusal {
     Window = 44,
     /// 45: a window starts before the preceding one ends.
     WindowOrder = 45,
-    /// 46: a field's least length is above its limit.
-    LeastLength = 46,
-    /// 47: a field's set of letters has a bit that is no letter's.
-    LetterSet = 47,
 }
 
 impl Refusal {
     /// All refusals, by rising number.
-    pub const ALL: [Refusal; 43] = [
+    pub const ALL: [Refusal; 41] = [
         Refusal::UnderNineBytes,
         Refusal::Mark,
         Refusal::Version,
@@ -137,8 +133,6 @@ impl Refusal {
         Refusal::HoursFault,
         Refusal::Window,
         Refusal::WindowOrder,
-        Refusal::LeastLength,
-        Refusal::LetterSet,
     ];
 
     /// Its number in document 01 or 02.
@@ -165,7 +159,7 @@ impl Refusal {
         match self {
             Refusal::UnderNineBytes => "the sheet has fewer than 9 bytes",
             Refusal::Mark => "the sheet does not start with the three bytes TPL",
-            Refusal::Version => "the version, which is the two bytes after TPL, is neither 1 nor 2",
+            Refusal::Version => "the version, which is the two bytes after TPL, is not 1",
             Refusal::LetterCount => "the letter count is not 1 to 8",
             Refusal::FieldCount => "the field count is not 0 to 6",
             Refusal::PairCount => "the pair count is not 1 to 4",
@@ -216,8 +210,6 @@ impl Refusal {
             }
             Refusal::Window => "a window's start is not below its end, or its end is above 10,080, the minutes of a week",
             Refusal::WindowOrder => "a window starts before the preceding one of its template ends",
-            Refusal::LeastLength => "a field's least length is above the field's limit",
-            Refusal::LetterSet => "a field's set of letters has a bit at or above the letter count, which is no letter's",
         }
     }
 }
@@ -236,18 +228,18 @@ mod tests {
     use super::*;
 
     #[test]
-    fn the_numbers_are_1_to_15_and_20_to_47() {
+    fn the_numbers_are_1_to_15_and_20_to_45() {
         let numbers: Vec<u8> = Refusal::ALL
             .iter()
             .map(|refusal| refusal.number())
             .collect();
-        assert_eq!(numbers, (1..=15).chain(20..=47).collect::<Vec<u8>>());
+        assert_eq!(numbers, (1..=15).chain(20..=45).collect::<Vec<u8>>());
     }
 
     #[test]
     fn a_number_leads_back_to_its_refusal() {
         for number in 0..=255 {
-            let there = (1..=15).contains(&number) || (20..=47).contains(&number);
+            let there = (1..=15).contains(&number) || (20..=45).contains(&number);
             let found = Refusal::from_number(number);
             assert_eq!(found.map(Refusal::number), Some(number).filter(|_| there));
         }

@@ -17,13 +17,6 @@ pub const PAIRS_AND_RULES: [u8; 31] = *b"TPL\x00\x01\x02\x02\x02\x02AB\x03\x03\
 \x01\x00\x00\x02\
 \xFF\xFF\xFF\xFF";
 
-/// A sheet of version 2 with the letters A, B and C, the fields x of limit 3 and y of limit 2, and one pair: x against y. By its rule x has at most 1 letter. By
-/// the kinds x has at least 1, of A and C, and y has letters of B and C. So they clash with C alone.
-pub const KINDS: [u8; 26] = *b"TPL\x00\x02\x03\x02\x01\x01ABC\x03\x02\
-\x01\x05\x00\x06\
-\x01\x01\x80\x81\
-\x01\x00\x00\x01";
-
 /// A book with the letters A and B and four templates, of which 0 and 1 clash, and 1 and 3: A and its field 0; its fields 1 and 0, and A; B;
 /// its fields 0 and 2, and ABA.
 pub const BOOK: [u8; 34] = *b"TPB\x00\x01\x02AB\x04\

@@ -1,15 +1,10 @@
 //! An accepted sheet, and all that can be asked of it.
 
 use crate::answers::{Checked, ClauseCounts, Counts, Searched, Side};
-use crate::{calls, Filling, Kind, Refusal, FIELD_BYTES, FILLING_MOST, TEXT_MOST};
+use crate::{calls, Filling, Refusal, FIELD_BYTES, FILLING_MOST, TEXT_MOST};
 
-/// Where a sheet's letters start, and where its version stands.
+/// Where a sheet's letters start.
 const HEADER_BYTES: usize = 9;
-const VERSION_AT: usize = 3;
-
-/// The version of a sheet with kinds, and the bytes of a kind.
-const WITH_KINDS: u16 = 2;
-const KIND_BYTES: usize = 2;
 
 /// What a refusal would mean where nothing can be refused.
 const ACCEPTED: &str = "the sheet was accepted, and the buffer is always long enough";
@@ -22,7 +17,7 @@ pub struct Sheet {
 }
 
 impl Sheet {
-    /// Reads a sheet of any bytes. Refusals: 1 to 15, 46 and 47.
+    /// Reads a sheet of any bytes. Refusals: 1 to 15.
     ///
     /// ```
     /// use lunthegyr::{Refusal, Sheet};
@@ -53,81 +48,8 @@ impl Sheet {
         &self.bytes[HEADER_BYTES..][..self.counts.letters]
     }
 
-    /// Its version: 1, or 2 with a kind for each field.
-    pub fn version(&self) -> u16 {
-        u16::from_be_bytes([self.bytes[VERSION_AT], self.bytes[VERSION_AT + 1]])
-    }
-
-    /// The limit of each field: the most letters that its text may have.
-    pub fn limits(&self) -> &[u8] {
-        &self.bytes[HEADER_BYTES + self.counts.letters..][..self.counts.fields]
-    }
-
-    /// The kind of a field: how long its text is at least, and of which letters. In version 1 every field may be empty, and have all letters.
-    ///
-    /// # Panics
-    ///
-    /// Where `field` is not below the field count.
-    pub fn kind(&self, field: usize) -> Kind {
-        assert!(
-            field < self.counts.fields,
-            "field {field} of a sheet of {} fields",
-            self.counts.fields
-        );
-        if self.version() != WITH_KINDS {
-            return Kind::any(self.counts.letters);
-        }
-        let kind = &self.bytes[self.kinds_at() + KIND_BYTES * field..];
-        Kind {
-            least: kind[0],
-            letters: kind[1],
-        }
-    }
-
-    /// Where the kinds stand, or what follows where there are none: after the limits.
-    fn kinds_at(&self) -> usize {
-        HEADER_BYTES + self.counts.letters + self.counts.fields
-    }
-
-    /// The sheet of version 2 that has these kinds for its fields, and all else as it is here. Refusals: 46 and 47.
-    ///
-    /// ```
-    /// use lunthegyr::{Kind, Refusal, Sheet};
-    ///
-    /// // The letters 0 and T; the field 0 of at most two letters against T: they clash, unless the field has only the letter 0.
-    /// let sheet = Sheet::read(*b"TPL\x00\x01\x02\x01\x01\x000T\x02\x01\x01\x80\x01")?;
-    /// assert!(sheet.search().is_some());
-    /// let digits = sheet.with_kinds(&[Kind { least: 0, letters: 0b01 }])?;
-    /// assert!(digits.search().is_none());
-    /// let too_long = sheet.with_kinds(&[Kind { least: 3, letters: 0b01 }]);
-    /// assert_eq!(too_long, Err(Refusal::LeastLength)); // the field's limit is 2
-    /// # Ok::<(), Refusal>(())
-    /// ```
-    ///
-    /// # Panics
-    ///
-    /// Where there are not as many kinds as the sheet has fields.
-    pub fn with_kinds(&self, kinds: &[Kind]) -> Result<Sheet, Refusal> {
-        assert!(
-            kinds.len() == self.counts.fields,
-            "{} kinds for {} fields",
-            kinds.len(),
-            self.counts.fields
-        );
-        let (before, after) = self.bytes.split_at(self.kinds_at());
-        let own = match self.version() {
-            WITH_KINDS => KIND_BYTES * self.counts.fields,
-            _ => 0,
-        };
-        let mut bytes = before.to_vec();
-        bytes[VERSION_AT..][..2].copy_from_slice(&WITH_KINDS.to_be_bytes());
-        bytes.extend(kinds.iter().flat_map(|kind| [kind.least, kind.letters]));
-        bytes.extend(&after[own..]);
-        Sheet::read(bytes)
-    }
-
     /// Whether a filling clashes; and if it does not, why: the first pair whose two texts differ, with what is left over of them, or else the first
-    /// rule that does not hold, or else the first field whose text is not of its kind. Refusals: 20 to 23.
+    /// rule that does not hold. Refusals: 20 to 23.
     ///
     /// ```
     /// use lunthegyr::{Cause, Checked, Filling, Refusal, Sheet, Side};
@@ -168,7 +90,7 @@ impl Sheet {
         Ok(filling.letters(field).iter().map(letter).collect())
     }
 
-    /// What a template spells under a filling, in the sheet's letters. Pairs count from 0. Rules and kinds play no part. Refusals: 20 to 24.
+    /// What a template spells under a filling, in the sheet's letters. Pairs count from 0. Refusals: 20 to 24.
     pub fn spell(&self, pair: usize, side: Side, filling: &Filling) -> Result<Vec<u8>, Refusal> {
         let mut text = [0; TEXT_MOST];
         let length = calls::spell(
@@ -252,7 +174,7 @@ impl Sheet {
 #[cfg(test)]
 mod tests {
     use super::*;
-    use crate::samples::{sheet_of, KINDS, P, P_FILE};
+    use crate::samples::{sheet_of, P, P_FILE};
     use crate::LINE_MOST;
 
     fn p() -> Sheet {
@@ -261,9 +183,7 @@ mod tests {
 
     #[test]
     fn an_accepted_sheet_keeps_its_bytes_and_counts() {
-        let sheet = sheet_of(include_str!(
-            "../../../tests/search.d/largest_with_kinds.sheet"
-        ));
+        let sheet = sheet_of(include_str!("../../../tests/search.d/largest_sheet.sheet"));
         let counts = Counts {
             letters: 8,
             fields: 6,
@@ -273,53 +193,6 @@ mod tests {
         assert_eq!(sheet.counts(), counts);
         assert_eq!(sheet.bytes().len(), crate::SHEET_MOST);
         assert_eq!(sheet.letters(), b"ABCDEFGH");
-    }
-
-    #[test]
-    fn limits_and_kinds_are_read() {
-        let sheet = Sheet::read(KINDS).unwrap();
-        assert_eq!((sheet.version(), sheet.limits()), (2, &[3, 2][..]));
-        let kinds = [0, 1].map(|field| (sheet.kind(field).least, sheet.kind(field).letters));
-        assert_eq!(kinds, [(1, 0b101), (0, 0b110)]);
-        assert_eq!((p().version(), p().limits()), (1, &[1][..]));
-        assert_eq!(p().kind(0), Kind::any(1));
-    }
-
-    #[test]
-    fn kinds_are_put_in_and_exchanged() {
-        let kinds = |sheet: &Sheet| [0, 1].map(|field| sheet.kind(field));
-        let sheet = Sheet::read(KINDS).unwrap();
-        assert_eq!(sheet.with_kinds(&kinds(&sheet)).unwrap(), sheet);
-        let any = sheet.with_kinds(&[Kind::any(3); 2]).unwrap();
-        assert_eq!(any.bytes()[12..18], [3, 2, 0, 7, 0, 7]);
-        assert_eq!(any.with_kinds(&kinds(&sheet)).unwrap(), sheet);
-        // The same as version 1, which has no kinds.
-        let mut bytes = KINDS.to_vec();
-        bytes[4] = 1;
-        bytes.drain(14..18);
-        let plain = Sheet::read(bytes).unwrap();
-        assert_eq!(kinds(&plain), kinds(&any));
-        assert_eq!(plain.with_kinds(&kinds(&any)).unwrap(), any);
-        assert_eq!(plain.clause_file(), any.clause_file());
-        assert_eq!(plain.search(), any.search());
-        let outside = Kind {
-            least: 0,
-            letters: 8,
-        };
-        let refused = plain.with_kinds(&[Kind::any(3), outside]);
-        assert_eq!(refused, Err(Refusal::LetterSet));
-    }
-
-    #[test]
-    #[should_panic(expected = "1 kinds for 2 fields")]
-    fn a_kind_that_is_missing_is_a_panic() {
-        let _ = Sheet::read(KINDS).unwrap().with_kinds(&[Kind::any(3)]);
-    }
-
-    #[test]
-    #[should_panic(expected = "field 1 of a sheet of 1 fields")]
-    fn a_kind_of_no_field_is_a_panic() {
-        p().kind(1);
     }
 
     #[test]
@@ -427,15 +300,6 @@ mod tests {
         let first = format!("p cnf {} {}\n", counts.variables, counts.clauses);
         assert!(file.starts_with(first.as_bytes()));
         assert_eq!(file, by_lines(&sheet));
-    }
-
-    #[test]
-    fn the_most_clauses_with_kinds_are_all_there() {
-        let sheet = sheet_of(include_str!(
-            "../../../tests/clauses.d/most_clauses_with_kinds.sheet"
-        ));
-        assert_eq!(sheet.clause_counts().clauses, 46_254);
-        assert_eq!(sheet.clause_file(), by_lines(&sheet));
     }
 
     #[test]

@@ -1,7 +1,7 @@
 //! Sizes, with the names of `include/lunthegyr.h` without `TPL_`.
 
-/// No accepted sheet has more bytes; of version 1 none has more than 159.
-pub const SHEET_MOST: usize = 171;
+/// No accepted sheet has more bytes.
+pub const SHEET_MOST: usize = 159;
 
 /// A sheet has at most this many letters, and at least one.
 pub const LETTERS_MOST: usize = 8;

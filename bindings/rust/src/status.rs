@@ -8,13 +8,13 @@ use std::ops::RangeInclusive;
 pub struct Call {
     pub name: &'static str,
     pub greatest: usize,
-    pub reads: &'static [RangeInclusive<u8>],
+    pub reads: RangeInclusive<u8>,
     pub own: &'static [u8],
 }
 
 /// The numbers of the refusals of a sheet, and of a book.
-pub const OF_SHEET: &[RangeInclusive<u8>] = &[1..=15, 46..=47];
-pub const OF_BOOK: &[RangeInclusive<u8>] = &[40..=41];
+pub const OF_SHEET: RangeInclusive<u8> = 1..=15;
+pub const OF_BOOK: RangeInclusive<u8> = 40..=41;
 
 impl Call {
     /// The answer, or the refusal.
@@ -29,8 +29,7 @@ impl Call {
     /// The refusal of a status below 0.
     fn refusal(&self, status: i64) -> Refusal {
         let number = u8::try_from(status.unsigned_abs()).unwrap_or(0);
-        let read = self.reads.iter().any(|numbers| numbers.contains(&number));
-        let given = read || self.own.contains(&number);
+        let given = self.reads.contains(&number) || self.own.contains(&number);
         match Refusal::from_number(number) {
             Some(refusal) if given => refusal,
             _ => self.unknown(status),
@@ -69,8 +68,6 @@ mod tests {
     fn a_status_below_0_is_a_refusal_of_the_call_or_of_what_it_reads() {
         assert_eq!(SAMPLE.outcome(-1), Err(Refusal::UnderNineBytes));
         assert_eq!(SAMPLE.outcome(-15), Err(Refusal::Coefficient));
-        assert_eq!(SAMPLE.outcome(-46), Err(Refusal::LeastLength));
-        assert_eq!(SAMPLE.outcome(-47), Err(Refusal::LetterSet));
         assert_eq!(SAMPLE.outcome(-27), Err(Refusal::BufferBelowFilling));
         assert_eq!(SAMPLE.outcome(-30), Err(Refusal::ReplySize));
         let of_book = Call {
@@ -96,7 +93,7 @@ mod tests {
         for status in (-300..300).chain(ends) {
             let allowed = (0..=3).contains(&status)
                 || (-15..=-1).contains(&status)
-                || [-27, -30, -46, -47].contains(&status);
+                || [-27, -30].contains(&status);
             let outcome = std::panic::catch_unwind(|| SAMPLE.outcome(status));
             assert_eq!(outcome.is_ok(), allowed, "status {status}");
         }

@@ -5,8 +5,8 @@ use mathlib.Core.List.{List, [], ◌∷◌, ◌++◌, map}
 use Prim.Native.Nat.{ℕ, ◌+◌, ◌*◌}
 use lib.ListN.{length}
 use Rattle.model.specs.Lists.{starts_with, same, each, from, keep, all, any}
-use Rattle.model.specs.Sheet.{has_bit, letter, field, row, times, width}
-use Rattle.model.specs.Word.{spell, same_letter, same_word, equation_holds, constraint_holds, field_keeps, keeps, solves}
+use Rattle.model.specs.Sheet.{letter, field, row, times, width}
+use Rattle.model.specs.Word.{spell, same_letter, same_word, equation_holds, constraint_holds, keeps, solves}
 use Rattle.model.specs.Solvable.{all_texts, substitutions, solvable}
 use Rattle.book.specs.Book.{Book, mark, count, some_symbols, a_template, some_templates, body, opens, accepted, refused, read_book}
 use Rattle.book.specs.Pairs.{asked, question, Pair, pairs, clashing, list_bytes}
@@ -42,10 +42,8 @@ read_in_full = refl
 
 -- "j's fields numbered after i's": field 1 of the second template is field 2 of the question
 pub asked_in_full : question three 0 1 ≡ record {
-  version = 1;
   letters = 65 ∷ 66 ∷ [];
   limits = 1 ∷ 0 ∷ 2 ∷ [];
-  domains = record { least = 0; members = 3 } ∷ record { least = 0; members = 3 } ∷ record { least = 0; members = 3 } ∷ [];
   equations = record { left = letter 0 ∷ field 0 ∷ letter 0 ∷ []; right = field 2 ∷ letter 1 ∷ field 2 ∷ [] } ∷ [];
   constraints = [];
 }
@@ -54,10 +52,8 @@ asked_in_full = refl
 
 -- and with two fields before it field 0 of the first template is field 2
 pub asked_the_other_way : question three 1 0 ≡ record {
-  version = 1;
   letters = 65 ∷ 66 ∷ [];
   limits = 0 ∷ 2 ∷ 1 ∷ [];
-  domains = record { least = 0; members = 3 } ∷ record { least = 0; members = 3 } ∷ record { least = 0; members = 3 } ∷ [];
   equations = record { left = field 1 ∷ letter 1 ∷ field 1 ∷ []; right = letter 0 ∷ field 2 ∷ letter 0 ∷ [] } ∷ [];
   constraints = [];
 }
@@ -75,7 +71,7 @@ pairs_of_four = refl
 
 -- ABA is spelled by both of the first two, with B and with A for their fields; the third spells the empty text, which neither of them does.
 pub clashing_of_three : clashing three ≡ record { first = 0; second = 1 } ∷ []
-unfolding clashing pairs keep each from asked solvable substitutions all_texts any all solves equation_holds constraint_holds same_letter same_word has_bit field_keeps keeps same spell
+unfolding clashing pairs keep each from asked solvable substitutions all_texts any all solves equation_holds constraint_holds same_letter same_word keeps same spell
 clashing_of_three = refl
 
 -- Field 0 of the one template is not field 0 of the other: A and a text, and a text and B, both spell AB, with B for the one field and A for the other. Were
@@ -90,12 +86,12 @@ own-fields = record {
 }
 
 pub clashing_of_own : clashing own-fields ≡ record { first = 0; second = 1 } ∷ []
-unfolding clashing pairs keep each from asked solvable substitutions all_texts any all solves equation_holds constraint_holds same_letter same_word has_bit field_keeps keeps same spell
+unfolding clashing pairs keep each from asked solvable substitutions all_texts any all solves equation_holds constraint_holds same_letter same_word keeps same spell
 clashing_of_own = refl
 
 -- and the list's bytes
 pub bytes_of_own : list_bytes (clashing own-fields) ≡ 0 ∷ 1 ∷ []
-unfolding list_bytes clashing pairs keep each from asked solvable substitutions all_texts any all solves equation_holds constraint_holds same_letter same_word has_bit field_keeps keeps same spell
+unfolding list_bytes clashing pairs keep each from asked solvable substitutions all_texts any all solves equation_holds constraint_holds same_letter same_word keeps same spell
 bytes_of_own = refl
 
 -- a damaged book and its refusal

@@ -13,8 +13,7 @@ use Rattle.model.specs.Range.{SymbolIn}
 use Rattle.model.specs.Word.{Substitution, Texts, symbol_word, spell, SameWord, Solves}
 use Rattle.model.proofs.Lists.{each_same, from_at}
 use Rattle.model.proofs.Keeping.{first-at, second_at, each_map}
-use Rattle.model.proofs.Words.{spell-agree}
-use Rattle.model.proofs.Kept.{legal-keeps}
+use Rattle.model.proofs.Words.{keeps_every, spell-agree}
 use Rattle.model.proofs.Fillings.{first_in, others_in, one_more_in, none_in}
 use Rattle.model.proofs.Solvable.{solvable_in, solvable_out}
 use Rattle.book.specs.Book.{Template, Book, template, BookIn}
@@ -68,7 +67,7 @@ module _ (k : Book) (ok : BookIn k) (i j : ℕ) (hi : i < length k.templates) wh
       tt,
     );
     constraints_hold = tt;
-    keeps_all = legal-keeps (question k i j) refl (g ++ h) (texts_join (length k.letters) t.limits u.limits g h p q);
+    keeps_all = keeps_every (question k i j) (g ++ h);
   }
 
   -- and what solves it is such texts

@@ -24,9 +24,9 @@ module _ (mark b : List ℕ) where
     unfolding opens
     opens_unmarked e = rw (long, e)
 
-    pub opens-version : starts_with mark b ≡ true → opens mark b ≡ eqb (sixteen (byte b 3) (byte b 4)) 1
+    pub opens_version : starts_with mark b ≡ true → opens mark b ≡ eqb (sixteen (byte b 3) (byte b 4)) 1
     unfolding opens
-    opens-version e = rw (long, e)
+    opens_version e = rw (long, e)
 
   opens-parts : opens mark b ≡ true → (5 ≤ length b) × (starts_with mark b ≡ true) × (sixteen (byte b 3) (byte b 4) ≡ 1)
   unfolding opens

@@ -10,7 +10,6 @@ use Rattle.model.specs.Sheet.{Symbol, letter, field, cells_of, width, accepted, 
 use Rattle.model.specs.Range.{SymbolIn, TemplateIn, InRange}
 use Rattle.model.proofs.Lists.{append_in, weaken, map_in, at}
 use Rattle.model.proofs.Keeping.{second_at, first-at}
-use Rattle.model.proofs.Domains.{unrestricted_in}
 use Rattle.model.proofs.Reading.{read-encode}
 use Rattle.book.specs.Book.{Template, Book, template, OwnIn, BookIn}
 use Rattle.book.specs.Pairs.{numbered_after, asked, question}
@@ -79,7 +78,6 @@ module _ (k : Book) (ok : BookIn k) (i j : ℕ) (hi : i < length k.templates) (h
   unfolding asked All
   question_in_range = record {
     counts_in = record {
-      of_version = (omega arith, omega arith);
       of_letters = ok.of_letters;
       of_fields = let n = length-append t.limits u.limits in omega (arith, t_in.few, u_in.few);
       of_equations = (omega arith, omega arith);
@@ -88,8 +86,6 @@ module _ (k : Book) (ok : BookIn k) (i j : ℕ) (hi : i < length k.templates) (h
     letters_in = ok.letters_in;
     rising = ok.rising;
     limits_in = append_in _ t.limits u.limits t_in.limits_in u_in.limits_in;
-    domains_in = unrestricted_in (length k.letters) (t.limits ++ u.limits);
-    version_one = λ _. refl;
     equations_in = (
       record {
         left_in = left_in (length k.letters) t.limits u.limits t.symbols t_in.template_in;

@@ -1,7 +1,7 @@
 -- What a book asks (document 02, No. 3): the question of two templates, and the list of those that clash.
 use Rattle.std.specs.Prelude.{Bool, List, [], ◌∷◌, ◌++◌, map, ℕ, suc, ◌+◌, ◌-◌, ◌<◌, ◌≡◌, length}
 use Rattle.model.specs.Lists.{each, from, up_to, when, keep}
-use Rattle.model.specs.Sheet.{unrestricted, Symbol, letter, field, Sheet}
+use Rattle.model.specs.Sheet.{Symbol, letter, field, Sheet}
 use Rattle.model.specs.Word.{Substitution, Texts, spell, SameWord}
 use Rattle.model.specs.Solvable.{solvable}
 use Rattle.book.specs.Book.{Template, Book, template}
@@ -12,13 +12,11 @@ numbered_after n (letter a) = letter a
 numbered_after n (field f) = field (n + f)
 
 -- "the question is the sheet with template i on the left and j on the right, j's fields numbered after i's, without rules": of two templates and
--- the book's letters. It is of version 1: a book says nothing of kinds.
+-- the book's letters
 unfoldable pub asked : List ℕ → Template → Template → Sheet
 asked letters t u = record {
-  version = 1;
   letters = letters;
   limits = t.limits ++ u.limits;
-  domains = map (λ n. unrestricted (length letters)) (t.limits ++ u.limits);
   equations = record { left = t.symbols; right = map (numbered_after (length t.limits)) u.symbols } ∷ [];
   constraints = [];
 }

@@ -76,7 +76,7 @@ module _ (k : Book) (ok : BookIn k) (i j : ℕ) (hi : i < length k.templates) (h
       let limits : List ℕ = t.limits ++ u.limits in
       let right : List Symbol = map (numbered_after (length t.limits)) u.symbols in
       let e : List ℕ = encode_equation (record { left = t.symbols; right = right }) in
-      let h : ℕ → List ℕ = λ v. header (record { version = 1; letter_count = length k.letters; field_count = v; equation_count = 1; constraint_count = 0 }) in
+      let h : ℕ → List ℕ = λ v. header (record { letter_count = length k.letters; field_count = v; equation_count = 1; constraint_count = 0 }) in
       ap (λ v. h v ++ (k.letters ++ (limits ++ ((e ++ []) ++ [])))) (length-append t.limits u.limits)
       ∙ one_equation (h (length t.limits + length u.limits)) k.letters limits e
       ∙ ap (λ z. head ++ z)

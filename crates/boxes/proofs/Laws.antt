@@ -12,11 +12,8 @@ use Rattle.model.proofs.Lists.{never, by_test, all_out, below_out}
 use Rattle.model.proofs.Keeping.{all_below}
 use Rattle.unification.specs.declared.Found.{Found}
 use Rattle.unification.proofs.Laws.{pick_ind}
-use Rattle.trails.specs.Equations.{Equation, equations, Solves}
+use Rattle.trails.specs.Equations.{Equation, equations}
 use Rattle.trails.specs.Attempt.{attempt_of}
-use Rattle.walk.specs.Reading.{texts}
-use Rattle.letters.specs.Letters.{assign_of, KeepsSets}
-use Rattle.letters.proofs.Laws.{assign_complete}
 use Rattle.inequalities.specs.Rows.{side_sum, row_holds, hopeless_row, rows_hold, Within}
 use Rattle.inequalities.proofs.Boxes.{hopeful_row}
 use Rattle.bounds.specs.declared.Ranges.{Ranges}
@@ -29,9 +26,9 @@ use Rattle.trails.specs.Board.{narrow_of, Watches}
 use Rattle.trails.proofs.Boards.{smaller_watches, narrow_watches, narrow_none}
 use Rattle.boxes.specs.declared.Left.{Left}
 use Rattle.boxes.specs.declared.Best.{Best}
-use Rattle.boxes.specs.Vectors.{Settled, Box, lettered, try_of}
-use Rattle.boxes.specs.Boxes.{Twins, Tested, Smaller, Shrinks, taken, Answered, Betters, Seeks}
-use Rattle.boxes.proofs.Tried.{try_same, tries, try_out, try_sound}
+use Rattle.boxes.specs.Vectors.{Settled, Box, try_of}
+use Rattle.boxes.specs.Boxes.{Twins, Smaller, Shrinks, taken, Answered, Betters, Seeks}
+use Rattle.boxes.proofs.Tried.{try_same, tries, try_out}
 use Rattle.boxes.proofs.Parts.{Parting, least, others, least-within, others-within, parts}
 
 -- at most half as many equations as widths
@@ -46,19 +43,19 @@ pub inner : (lo hi l h : List ℕ) → Inside lo hi l h → (m : List ℕ) → W
 inner lo hi l h inside m c f k = let w = c f k in let i = inside f k in (omega (arith, w.0, i.0), omega (arith, w.1, i.1))
 
 -- What is left of a box.
-module _ (es back : List Equation) (rows : List ℕ) (count : ℕ) (sets lo hi : List ℕ) (t u : ℕ) (b : Board) (twins : Twins es back lo hi) (watches : Watches es back lo hi b) (r : Ranges) (tightened : Tightened (ClosedTotal t u rows count) lo hi r) where
+module _ (es back : List Equation) (rows : List ℕ) (count : ℕ) (lo hi : List ℕ) (t u : ℕ) (b : Board) (twins : Twins es back lo hi) (watches : Watches es back lo hi b) (r : Ranges) (tightened : Tightened (ClosedTotal t u rows count) lo hi r) where
   -- nothing is left of a range
-  pub emptied : r.ok ≡ false → (left : Left) → left.ok ≡ false → Shrinks es back rows count sets lo hi t u left
+  pub emptied : r.ok ≡ false → (left : Left) → left.ok ≡ false → Shrinks es back rows count lo hi t u left
   emptied e left not = record {
     some = λ ok. never (sym not ∙ ok);
-    none = λ _ m c. by_test (try_of es rows count sets m).ok
-        (λ won. never (sym (empty_none-total t u rows count lo hi r tightened e m c.0 c.1 c.2) ∙ (try_out es rows count sets m won).rows_hold))
+    none = λ _ m c. by_test (try_of es rows count m).ok
+        (λ won. never (sym (empty_none-total t u rows count lo hi r tightened e m c.0 c.1 c.2) ∙ (try_out es rows count m won).rows_hold))
         (λ lost. lost);
   }
 
   module _ (some : r.ok ≡ true) where
-    kept : (m : List ℕ) → Box lo hi t u m → (try_of es rows count sets m).ok ≡ true → Within r.lo r.hi m
-    kept m c won = vector-within (ClosedTotal t u rows count) lo hi r tightened m c.0 (total-closed t u rows count m c.1 c.2 (try_out es rows count sets m won).rows_hold)
+    kept : (m : List ℕ) → Box lo hi t u m → (try_of es rows count m).ok ≡ true → Within r.lo r.hi m
+    kept m c won = vector-within (ClosedTotal t u rows count) lo hi r tightened m c.0 (total-closed t u rows count m c.1 c.2 (try_out es rows count m won).rows_hold)
 
     inside : (m : List ℕ) → Within r.lo r.hi m → Within lo hi m
     inside = inner lo hi r.lo r.hi (tightened.found some).inside
@@ -66,40 +63,21 @@ module _ (es back : List Equation) (rows : List ℕ) (count : ℕ) (sets lo hi :
     tight : Watches es back r.lo r.hi b
     tight = smaller_watches es back lo hi r.lo r.hi b inside watches
 
-    -- the trails are walked, and their letters tested
-    module _ (c : Board) (is : c ≡ narrow_of es back b r.lo r.hi) where
-      watched : c.ok ≡ true → Watches es back r.lo r.hi c
-      watched ok = subst (Watches es back r.lo r.hi) (sym is) (narrow_watches es back r.lo r.hi b tight (ap (λ (z : Board). z.ok) (sym is) ∙ ok))
-
-      -- where a walk fails nothing succeeds, and neither where no letters keep the sets: those of a success do
-      walks : (m : List ℕ) → Box lo hi t u m → (try_of es rows count sets m).ok ≡ true → c.ok ≡ false → ⊥
-      walks m d won not =
+    -- the trails are walked
+    pub walked : (c : Board) → c ≡ narrow_of es back b r.lo r.hi → Shrinks es back rows count lo hi t u (record { ok = c.ok; lo = r.lo; hi = r.hi; board = c })
+    walked c is = record {
+      some = λ ok. record {
+        inside = (tightened.found some).inside;
+        closed = (tightened.found some).closed;
+        kept = kept;
+        watches = subst (Watches es back r.lo r.hi) (sym is) (narrow_watches es back r.lo r.hi b tight (ap (λ (z : Board). z.ok) (sym is) ∙ ok));
+      };
+      none = λ not m d. by_test (try_of es rows count m).ok
+          (λ won.
           let i = kept m d won in
-          never (sym (narrow_none es back r.lo r.hi b tight (ap (λ (z : Board). z.ok) (sym is) ∙ not) m i (twins m (inside m i))) ∙ (try_out es rows count sets m won).attempted)
-
-      has_letters : (m : List ℕ) → Box lo hi t u m → (try_of es rows count sets m).ok ≡ true → c.ok ≡ true → (assign_of c.ahead.substitution sets).ok ≡ true
-      has_letters m d won ok =
-          let s = try_sound es rows count sets m won in
-          let σ = s.how.by in
-          let solves : Solves es (texts σ m) = subst (Solves es) s.how.is s.solves in
-          let keeps : KeepsSets sets (texts σ m) = subst (KeepsSets sets) s.how.is s.keeps in
-          let agrees = (watched ok).ahead_follows.solved σ s.how.refines m (kept m d won) solves in
-          assign_complete c.ahead.substitution sets σ s.how.refines (texts σ m) agrees.covers keeps
-
-      pub walked : (q : Bool) → Tested c sets q → Shrinks es back rows count sets lo hi t u (record { ok = q; lo = r.lo; hi = r.hi; board = c })
-      walked q test = record {
-        some = λ e. record {
-          inside = (tightened.found some).inside;
-          closed = (tightened.found some).closed;
-          kept = kept;
-          watches = watched (test.passes e);
-        };
-        none = λ e m d. by_test (try_of es rows count sets m).ok
-            (λ won. by_test c.ok
-            (λ ok. never (sym (test.fails e ok) ∙ has_letters m d won ok))
-            (λ not. absurd (walks m d won not)))
-            (λ lost. lost);
-      }
+          never (sym (narrow_none es back r.lo r.hi b tight (ap (λ (z : Board). z.ok) (sym is) ∙ not) m i (twins m (inside m i))) ∙ (try_out es rows count m won).attempted))
+          (λ lost. lost);
+    }
 
 -- Ranges of one length each, of which no row excludes an end: the rows hold there.
 closed-holds : (rows : List ℕ) (count : ℕ) (lo hi : List ℕ) → Settled lo hi 6 → Closed rows count lo hi → rows_hold rows count lo ≡ true
@@ -124,21 +102,21 @@ pub stays : (try : List ℕ → Found) (lo hi : List ℕ) (t : ℕ) (shortest : 
     → ((m : List ℕ) → Within lo hi m → t ≤ sum_of m → sum_of m < best.below → (try m).ok ≡ false) → Betters try lo hi t shortest best best
 stays try lo hi t shortest best none = record { lower = omega arith; none = none; outcome = inl refl }
 
-module _ (es back : List Equation) (rows : List ℕ) (count : ℕ) (sets lo hi : List ℕ) (t : ℕ) (best : Best) (shortest : Bool) where
+module _ (es back : List Equation) (rows : List ℕ) (count : ℕ) (lo hi : List ℕ) (t : ℕ) (best : Best) (shortest : Bool) where
   abbrev try : List ℕ → Found
-  try = try_of es rows count sets
+  try = try_of es rows count
 
   -- no totals are asked for
   pub unasked : best.below ≤ t → Betters try lo hi t shortest best best
   unasked less = stays try lo hi t shortest best (λ m c low high. absurd (omega arith))
 
-  module _ (asked : t < best.below) (left : Left) (shrinks : Shrinks es back rows count sets lo hi t (best.below - 1) left) where
+  module _ (asked : t < best.below) (left : Left) (shrinks : Shrinks es back rows count lo hi t (best.below - 1) left) where
     -- nothing is left
     pub cut : left.ok ≡ false → Betters try lo hi t shortest best best
     cut e = stays try lo hi t shortest best (λ m c low high. shrinks.none e m (c, low, omega arith))
 
     module _ (ok : left.ok ≡ true) where
-      smaller : Smaller es back rows count sets lo hi t (best.below - 1) left
+      smaller : Smaller es back rows count lo hi t (best.below - 1) left
       smaller = shrinks.some ok
 
       -- what succeeds is in the smaller box
@@ -156,16 +134,13 @@ module _ (es back : List Equation) (rows : List ℕ) (count : ℕ) (sets lo hi :
         totals : (t ≤ sum_of n) × (sum_of n ≤ best.below - 1)
         totals = total-told t (best.below - 1) n (closed-holds (total_rows t (best.below - 1)) 2 n left.hi s smaller.closed.0)
 
-        abbrev here : Found
-        here = lettered sets (attempt_of es n)
+        tried : attempt_of es n ≡ try n
+        tried = tries es rows count n (closed-holds rows count n left.hi s smaller.closed.1)
 
-        tried : here ≡ try n
-        tried = tries es rows count sets n (closed-holds rows count n left.hi s smaller.closed.1)
+        failing : (attempt_of es n).ok ≡ false → (m : List ℕ) → Within n left.hi m → (try m).ok ≡ false
+        failing e m c = ap (λ (z : Found). z.ok) (try_same es rows count m n (same m c) ∙ sym tried) ∙ e
 
-        failing : here.ok ≡ false → (m : List ℕ) → Within n left.hi m → (try m).ok ≡ false
-        failing e m c = ap (λ (z : Found). z.ok) (try_same es rows count sets m n (same m c) ∙ sym tried) ∙ e
-
-        told : here.ok ≡ true → Betters try lo hi t shortest best (record { found = here; below = pick shortest (sum_of n) 0 })
+        told : (attempt_of es n).ok ≡ true → Betters try lo hi t shortest best (record { found = attempt_of es n; below = pick shortest (sum_of n) 0 })
         told e = record {
           lower = by_test shortest (λ y. rw y (omega (arith, totals.1))) (λ y. rw y (omega arith));
           none = λ m c low high. by_test shortest
@@ -183,9 +158,9 @@ module _ (es back : List Equation) (rows : List ℕ) (count : ℕ) (sets lo hi :
           });
         }
 
-        pub at_one : (r : Best) → r ≡ taken (here) (sum_of n) best shortest → Betters try lo hi t shortest best r
+        pub at_one : (r : Best) → r ≡ taken (attempt_of es n) (sum_of n) best shortest → Betters try lo hi t shortest best r
         at_one r is = subst (Betters try lo hi t shortest best) (sym is)
-            (pick_ind (Betters try lo hi t shortest best) here.ok told
+            (pick_ind (Betters try lo hi t shortest best) (attempt_of es n).ok told
             (λ e. stays try lo hi t shortest best (λ m c low high. back_in m c low high (failing e m))))
 
       -- the box is parted

@@ -6,7 +6,6 @@ use Rattle.unification.specs.Names.{failed}
 use Rattle.trails.specs.Equations.{Equation}
 use Rattle.walk.specs.Reading.{start_of}
 use Rattle.trails.specs.Attempt.{attempt_of}
-use Rattle.letters.specs.Letters.{assign_of}
 use Rattle.inequalities.specs.Rows.{Within, rows_hold}
 use Rattle.bounds.specs.Bounds.{sum_of}
 
@@ -45,10 +44,6 @@ pub record First (try : List ℕ → Found) (C : List ℕ → Type 0) (O : List 
   pub hit : r.ok ≡ true → Hit try C O r
   pub miss : r.ok ≡ false → (m : List ℕ) → C m → (try m).ok ≡ false
 
--- what an attempt has left, with the first letters that keep the sets
-abbrev pub lettered : List ℕ → Found → Found
-lettered sets r = pick r.ok (assign_of r.substitution sets) r
-
--- what is tried at a vector, where the rows hold: an attempt, and then letters
-unfoldable pub try_of : List Equation → List ℕ → ℕ → List ℕ → List ℕ → Found
-try_of es rows count sets m = pick (rows_hold rows count m) (lettered sets (attempt_of es m)) (failed (start_of m))
+-- what is tried at a vector: an attempt, where the rows hold
+unfoldable pub try_of : List Equation → List ℕ → ℕ → List ℕ → Found
+try_of es rows count m = pick (rows_hold rows count m) (attempt_of es m) (failed (start_of m))

@@ -1,6 +1,5 @@
 // The search in boxes of lengths. A box is every vector from `lo` to `hi`; its ranges are shortened by the rows and by the totals that are asked for, and its
-// two trails are walked as far as they go. A box is cut where nothing is left of a range, where a walk fails, or
-// where what it has found leaves a place without a letter; a box of one vector is tried; any other is
+// two trails are walked as far as they go. A box is cut where nothing is left of a range, or where a walk fails; a box of one vector is tried; any other is
 // parted by the length of one field, which `choice` names.
 ghost use Rattle.std.specs.Prelude.{◌≡◌, false, ◌≤◌, length};
 ghost use Rattle.walk.specs.Walk.{Cells};
@@ -8,22 +7,14 @@ ghost use Rattle.trails.specs.Equations.{equations, cell_total};
 ghost use Rattle.trails.specs.Attempt.{attempt_of};
 ghost use Rattle.bounds.specs.Bounds.{sum_of, Some};
 ghost use Rattle.trails.specs.Board.{Watches};
-ghost use Rattle.boxes.specs.Vectors.{lettered, try_of};
-ghost use Rattle.boxes.specs.Boxes.{Twins, Given, Tested, Shrinks, taken, Betters, Seeks};
+ghost use Rattle.boxes.specs.Vectors.{try_of};
+ghost use Rattle.boxes.specs.Boxes.{Twins, Given, Shrinks, taken, Betters, Seeks};
 
 use choice::Uses;
 use fields::{EMPTY, FIELDS, Lengths};
-use letters::Sets;
 use scan::wide;
 use trails::Board;
 use unification::Found;
-
-// The letters that each field admits, and whether boxes are cut by them too. That bears on time alone.
-#[derive(Drop)]
-pub struct Alphabets {
-    pub sets: Sets,
-    pub cut: bool,
-}
 
 // What is left of a box, with its trails; not ok where there is nothing.
 #[derive(Drop)]
@@ -75,22 +66,6 @@ fn none_yet(u: u16) -> Best
     }
 }
 
-// Whether a board is ok and, if boxes are cut by the sets, every name of its first trail has a letter left and every letter is in the set of its field.
-fn some_letters(b: Board, alphabets: Alphabets) -> bool
-    ensures { Tested b alphabets.sets result }
-{
-    if !b.ok {
-        return false;
-    }
-    if !alphabets.cut {
-        return true;
-    }
-    let ahead = b.ahead;
-    let g = ahead.substitution;
-    let sets = alphabets.sets;
-    letters::assign(g, sets).ok
-}
-
 // What is left of a box for totals from t to u. The ranges are the widest; how far the trails come is not promised, and bears on time alone.
 fn shrink(
     x: &[u8],
@@ -98,7 +73,6 @@ fn shrink(
     w: &[u8],
     rows: &[u16],
     count: usize,
-    alphabets: Alphabets,
     b: Board,
     lo: Lengths,
     hi: Lengths,
@@ -106,7 +80,7 @@ fn shrink(
     u: u16,
 ) -> Left
     requires { Given x.now y.now w.now rows.now count × Some lo hi × Twins (equations x.now w.now) (equations y.now w.now) lo hi × Watches (equations x.now w.now) (equations y.now w.now) lo hi b }
-    ensures { Shrinks (equations x.now w.now) (equations y.now w.now) rows.now count alphabets.sets lo hi t u result }
+    ensures { Shrinks (equations x.now w.now) (equations y.now w.now) rows.now count lo hi t u result }
 {
     let by = bounds::tighten_total(rows, count, lo, hi, t, u);
     let low = by.lo;
@@ -121,32 +95,19 @@ fn shrink(
     }
     let board = trails::narrow(x, y, w, b, low, high);
     Left {
-        ok: some_letters(board, alphabets),
+        ok: board.ok,
         lo: low,
         hi: high,
         board: board,
     }
 }
 
-// What is tried at a vector where the rows hold: an attempt, and then the first letters that keep the sets.
-fn try_at(x: &[u8], w: &[u8], n: Lengths, sets: Sets) -> Found
+// A box of one vector: an attempt there.
+fn at_vector(x: &[u8], w: &[u8], n: Lengths, best: Best, shortest: bool) -> Best
     requires { Cells x.now × (cell_total w.now ≤ length x.now) × (length w.now ≤ 8) }
-    ensures { result ≡ lettered sets (attempt_of (equations x.now w.now) n) }
+    ensures { result ≡ taken (attempt_of (equations x.now w.now) n) (sum_of n) best shortest }
 {
-    let walked = trails::attempt(x, w, n);
-    if !walked.ok {
-        return walked;
-    }
-    let g = walked.substitution;
-    letters::assign(g, sets)
-}
-
-// A box of one vector: what is tried there.
-fn at_vector(x: &[u8], w: &[u8], n: Lengths, sets: Sets, best: Best, shortest: bool) -> Best
-    requires { Cells x.now × (cell_total w.now ≤ length x.now) × (length w.now ≤ 8) }
-    ensures { result ≡ taken (lettered sets (attempt_of (equations x.now w.now) n)) (sum_of n) best shortest }
-{
-    let found = try_at(x, w, n, sets);
+    let found = trails::attempt(x, w, n);
     if !found.ok {
         return best;
     }
@@ -164,7 +125,6 @@ fn in_box(
     w: &[u8],
     rows: &[u16],
     count: usize,
-    alphabets: Alphabets,
     uses: Uses,
     b: Board,
     lo: Lengths,
@@ -175,7 +135,7 @@ fn in_box(
     last: u8,
 ) -> Searched
     requires { Given x.now y.now w.now rows.now count × Some lo hi × Twins (equations x.now w.now) (equations y.now w.now) lo hi × Watches (equations x.now w.now) (equations y.now w.now) lo hi b }
-    ensures { Betters (try_of (equations x.now w.now) rows.now count alphabets.sets) lo hi t shortest best result.best }
+    ensures { Betters (try_of (equations x.now w.now) rows.now count) lo hi t shortest best result.best }
 {
     if best.below <= t {
         return Searched {
@@ -183,19 +143,7 @@ fn in_box(
             last: last,
         };
     }
-    let left = shrink(
-        x,
-        y,
-        w,
-        rows,
-        count,
-        alphabets,
-        b,
-        lo,
-        hi,
-        t,
-        best.below - 1,
-    );
+    let left = shrink(x, y, w, rows, count, b, lo, hi, t, best.below - 1);
     let board = left.board;
     if !left.ok {
         return Searched {
@@ -207,9 +155,8 @@ fn in_box(
     let high = left.hi;
     let k = choice::choose(x, y, w, uses, board, low, high, last);
     if k == FIELDS {
-        let sets = alphabets.sets;
         return Searched {
-            best: at_vector(x, w, low, sets, best, shortest),
+            best: at_vector(x, w, low, best, shortest),
             last: last,
         };
     }
@@ -218,7 +165,7 @@ fn in_box(
     let mut least = high;
     least[k] = low[k];
     let first = in_box(
-        x, y, w, rows, count, alphabets, uses, board, low, least, t, best, shortest, last,
+        x, y, w, rows, count, uses, board, low, least, t, best, shortest, last,
     );
     let better = first.best;
     // for the proof: the least length is below a byte's greatest number
@@ -226,7 +173,7 @@ fn in_box(
     let mut others = low;
     others[k] = low[k] + 1;
     in_box(
-        x, y, w, rows, count, alphabets, uses, board, others, high, t, better, shortest, first.last,
+        x, y, w, rows, count, uses, board, others, high, t, better, shortest, first.last,
     )
 }
 
@@ -237,7 +184,6 @@ pub fn seek(
     w: &[u8],
     rows: &[u16],
     count: usize,
-    alphabets: Alphabets,
     uses: Uses,
     lo: Lengths,
     hi: Lengths,
@@ -246,7 +192,7 @@ pub fn seek(
     shortest: bool,
 ) -> Best
     requires { Given x.now y.now w.now rows.now count × Some lo hi × Twins (equations x.now w.now) (equations y.now w.now) lo hi }
-    ensures { Seeks (try_of (equations x.now w.now) rows.now count alphabets.sets) lo hi t u shortest result }
+    ensures { Seeks (try_of (equations x.now w.now) rows.now count) lo hi t u shortest result }
 {
     in_box(
         x,
@@ -254,7 +200,6 @@ pub fn seek(
         w,
         rows,
         count,
-        alphabets,
         uses,
         trails::open_board(),
         lo,

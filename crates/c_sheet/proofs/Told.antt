@@ -13,7 +13,7 @@ use Rattle.calls.proofs.Read.{reading-accepted, reading_counts}
 use Rattle.calls.proofs.Refusals.{refusal_numbers, checking_cases, spelling-refused}
 use Rattle.calls.proofs.Operations.{Sized}
 use Rattle.calls.proofs.Passed.{FillingOf, answered, passed_solves, solves_passed}
-use Rattle.calls.proofs.LeftOver.{FirstDiffers, FirstBroken, FirstOutside, Told, a_clash, a_pair, a_rule, a_field, no_other_answer}
+use Rattle.calls.proofs.LeftOver.{FirstDiffers, FirstBroken, Told, a_clash, a_pair, a_rule, no_other_answer}
 use Rattle.c_answer.specs.Returned.{returned, returned_number, array_after, Explained}
 use Rattle.c_answer.proofs.Told.{zero_finished, negative, pos_equal, length-told}
 
@@ -75,7 +75,6 @@ module _ (b m : List ℕ) (y : Bytes b) (r : ℤ) (before after : List ℕ) (cal
   pub data Why : Type 0 where
     pair_differs : (g : Substitution) (p n side rest : ℕ) → FillingOf b m g → after ≡ 1 ∷ p ∷ n ∷ side ∷ rest ∷ [] → FirstDiffers (sheet_of b) g p n side rest → Why
     rule_broken : (g : Substitution) (k : ℕ) → FillingOf b m g → after ≡ 2 ∷ k ∷ 0 ∷ 0 ∷ 0 ∷ [] → FirstBroken (sheet_of b) g k → Why
-    kind_broken : (g : Substitution) (k : ℕ) → FillingOf b m g → after ≡ 3 ∷ k ∷ 0 ∷ 0 ∷ 0 ∷ [] → FirstOutside (sheet_of b) g k → Why
 
   pub zero_tells_why : r ≡ pos 0 → Why
   zero_tells_why e =
@@ -87,7 +86,6 @@ module _ (b m : List ℕ) (y : Bytes b) (r : ℤ) (before after : List ℕ) (cal
       by_answer g f c (a_clash e k) = let q = sym c ∙ e in let z : ◌≡◌ {A = ℕ} 0 1 = cc in absurd (omega arith)
       by_answer g f c (a_pair p n side rest e k) = pair_differs g p n side rest f (call.1 ∙ ap (λ a. array_after a before) e) k
       by_answer g f c (a_rule q e k) = rule_broken g q f (call.1 ∙ ap (λ a. array_after a before) e) k
-      by_answer g f c (a_field q e k) = kind_broken g q f (call.1 ∙ ap (λ a. array_after a before) e) k
 
 -- `tpl_spell`
 pub length-spelled : (b : List ℕ) (p side : ℕ) (m : List ℕ) (room n : ℕ) → returned_number (sized (spelling b p side m room)) ≡ pos n → Sized (spelling b p side m room) n

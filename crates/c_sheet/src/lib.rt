@@ -15,8 +15,6 @@ const PAIR_DIFFERS: u64 = 1;
 
 const RULE_BROKEN: u64 = 2;
 
-const KIND_BROKEN: u64 = 3;
-
 // `tpl_read`: the four counts go to `counts`.
 pub fn read(sheet: &[u8], counts: &mut [u64; 4]) -> i64
     ensures { (result ≡ returned (reading sheet.now)) × (counts.new ≡ lent_after (reading sheet.now) counts.old) }
@@ -35,7 +33,7 @@ pub fn read(sheet: &[u8], counts: &mut [u64; 4]) -> i64
 }
 
 // `tpl_check`: 1 for a clash; 0 for none, with the cause in `why`: the pair that differs, the letters that agree, the side and the length of the rest; or the rule
-// broken; or the field that breaks its kind.
+// broken.
 pub fn check(sheet: &[u8], filling: &[u8], why: &mut [u64; 5]) -> i64
     ensures { Explained (checking sheet.now filling.now) why.old result why.new }
 {
@@ -52,11 +50,6 @@ pub fn check(sheet: &[u8], filling: &[u8], why: &mut [u64; 5]) -> i64
         substitution::Checking::Breaks(constraint) => {
             let rule = constraint as u64;
             *why = [RULE_BROKEN, rule, 0, 0, 0];
-            DOES_NOT_CLASH
-        }
-        substitution::Checking::Outside(outside) => {
-            let field = outside as u64;
-            *why = [KIND_BROKEN, field, 0, 0, 0];
             DOES_NOT_CLASH
         }
         substitution::Checking::Refused(refusal) => minus(substitution::number(refusal)),

@@ -4,19 +4,19 @@ use mathlib.Core.Path.{◌≡◌, refl}
 use mathlib.Core.List.{List, [], ◌∷◌, ◌++◌, map}
 use Prim.Native.Nat.{ℕ}
 use Rattle.model.specs.Lists.{starts_with, same, leading, each, from, all, any, keep, total}
-use Rattle.model.specs.Sheet.{has_bit, row, times, a_domain, the_domains, domains_of, sides, an_equation, a_constraint, walk, width, signed, opening, read}
-use Rattle.model.specs.Word.{spell, weight, same_letter, same_word, equation_holds, constraint_holds, field_keeps, keeps, solves}
+use Rattle.model.specs.Sheet.{row, times, sides, an_equation, a_constraint, walk, width, signed, opening, read}
+use Rattle.model.specs.Word.{spell, weight, same_letter, same_word, equation_holds, constraint_holds, keeps, solves}
 use Rattle.model.specs.Mismatch.{agreeing, judged}
 use Rattle.model.specs.Solvable.{all_texts, substitutions, solvable}
 use Rattle.model.specs.Order.{total_length, field_letters, ranks, lex, earliest, first_solution}
 use Rattle.model.specs.Filling.{places, a_text, texts, filling, encode_filling}
 use Rattle.calls.specs.Report.{report, refused_line, search_printed}
 use Rattle.model.specs.Cells.{cells}
-use Rattle.formula.specs.Clause.{terms, left_out, literals, least, spread, sums, excluded, excluded_ids, place_ids, location_ids, equation_ids, constraint_ids, listed, ids}
+use Rattle.formula.specs.Clause.{terms, left_out, literals, least, spread, sums, place_ids, location_ids, equation_ids, constraint_ids, listed, ids}
 use Rattle.formula.specs.Numbering.{k_variables, s_variables, t_variables, variables, number, clause}
 use Rattle.formula.specs.Dimacs.{digits, decimal, problem_line, clause_line, line, file, file_size}
 use Rattle.calls.specs.Calls.{Answer, refused, finished, checking, spelling_of, spelling, written, searching_of, searching, counting, writing_of, writing, filing_of, filing, listing, comparing, comparing_hours}
-use Rattle.model.proofs.Computed.{sheet2, sheet, P}
+use Rattle.model.proofs.Computed.{sheet, P}
 use Rattle.book.specs.Book.{mark, count, some_symbols, a_template, some_templates, body, opens, read_book}
 use Rattle.book.specs.Pairs.{pairs, clashing, list_bytes}
 use Rattle.book.specs.Pairs as question
@@ -65,16 +65,6 @@ abbrev ◌checks◌ : List ℕ → Answer → Check
 ◌checks◌ m a = record { on = asked; of = m; answer = a }
 
 infix 5 ◌checks◌
--- document 01's sheet P as version 2: with least length 0 and all letters; with an empty set and least length 1; over A and B, with B alone
-abbrev pub plain2 : List ℕ
-plain2 = sheet2 1 1 1 0 (65 ∷ 1 ∷ 0 ∷ 1 ∷ 1 ∷ 1 ∷ 128 ∷ 0 ∷ [])
-
-abbrev pub empty_set : List ℕ
-empty_set = sheet2 1 1 1 0 (65 ∷ 1 ∷ 1 ∷ 0 ∷ 1 ∷ 1 ∷ 128 ∷ 0 ∷ [])
-
-abbrev pub only_b : List ℕ
-only_b = sheet2 2 1 1 0 (65 ∷ 66 ∷ 1 ∷ 0 ∷ 2 ∷ 1 ∷ 1 ∷ 128 ∷ 0 ∷ [])
-
 abbrev pub checked : List Check
 checked =
     (empty ++ empty checks finished (1 ∷ []))
@@ -90,14 +80,6 @@ checked =
     -- nothing against A, and a rule broken: the pair is told; A against A: the rule
     ∷ record { on = unruly; of = empty; answer = finished (0 ∷ 1 ∷ 0 ∷ 0 ∷ 1 ∷ 1 ∷ []) }
     ∷ record { on = unruly; of = nine 1 0 255; answer = finished (0 ∷ 2 ∷ 0 ∷ 0 ∷ 0 ∷ 0 ∷ []) }
-    -- A against A, but the field's set is empty, or has B alone; B against A: the pair is told; with all letters it is a clash
-    ∷ record { on = empty_set; of = nine 1 0 255; answer = finished (0 ∷ 3 ∷ 0 ∷ 0 ∷ 0 ∷ 0 ∷ []) }
-    ∷ record { on = only_b; of = nine 1 0 255; answer = finished (0 ∷ 3 ∷ 0 ∷ 0 ∷ 0 ∷ 0 ∷ []) }
-    ∷ record { on = only_b; of = nine 1 1 255; answer = finished (0 ∷ 1 ∷ 0 ∷ 0 ∷ 0 ∷ 1 ∷ []) }
-    ∷ record { on = plain2; of = nine 1 0 255; answer = finished (1 ∷ []) }
-    -- XY against YX, X of A and Y of B: A and A, and the second field is told; B and B, and the first
-    ∷ record { on = sheet2 2 2 1 0 (65 ∷ 66 ∷ 1 ∷ 1 ∷ 0 ∷ 1 ∷ 0 ∷ 2 ∷ 2 ∷ 2 ∷ 128 ∷ 129 ∷ 129 ∷ 128 ∷ []); of = nine 1 0 255 ++ nine 1 0 255; answer = finished (0 ∷ 3 ∷ 1 ∷ 0 ∷ 0 ∷ 0 ∷ []) }
-    ∷ record { on = sheet2 2 2 1 0 (65 ∷ 66 ∷ 1 ∷ 1 ∷ 0 ∷ 1 ∷ 0 ∷ 2 ∷ 2 ∷ 2 ∷ 128 ∷ 129 ∷ 129 ∷ 128 ∷ []); of = nine 1 1 255 ++ nine 1 1 255; answer = finished (0 ∷ 3 ∷ 0 ∷ 0 ∷ 0 ∷ 0 ∷ []) }
     -- the size, with a length above the limit
     ∷ ([] checks refused 20)
     ∷ (nine 3 0 0 checks refused 20)
@@ -126,7 +108,7 @@ checked =
     ∷ []
 
 pub check_answers : map (λ (c : Check). checking c.on c.of) checked ≡ map (λ (c : Check). c.answer) checked
-unfolding starts_with row times a_domain the_domains domains_of sides an_equation a_constraint walk width signed opening read each from all leading spell weight same_letter same_word equation_holds constraint_holds has_bit field_keeps agreeing judged places a_text texts filling checking
+unfolding starts_with row times sides an_equation a_constraint walk width signed opening read each leading spell weight same_letter same_word equation_holds constraint_holds agreeing judged places a_text texts filling checking
 check_answers = refl
 
 pub record Spell : Type 0 where
@@ -161,18 +143,17 @@ spellings =
     ∷ []
 
 pub spell_answers : map (λ (c : Spell). spelling c.on c.pair c.side c.of c.room) spellings ≡ map (λ (c : Spell). c.answer) spellings
-unfolding starts_with row times a_domain the_domains domains_of sides an_equation a_constraint walk width signed opening read each spell places a_text texts filling spelling_of spelling
+unfolding starts_with row times sides an_equation a_constraint walk width signed opening read each spell places a_text texts filling spelling_of spelling
 spell_answers = refl
 
 -- what is left in a longer buffer
 pub later_bytes : written (spelling asked 0 1 (nine 2 1 0 ++ nine 1 1 255) 4) (1 ∷ 2 ∷ 3 ∷ 4 ∷ []) ≡ 65 ∷ 66 ∷ 3 ∷ 4 ∷ []
-unfolding starts_with row times a_domain the_domains domains_of sides an_equation a_constraint walk width signed opening read each spell places a_text texts filling spelling_of spelling
+unfolding starts_with row times sides an_equation a_constraint walk width signed opening read each spell places a_text texts filling spelling_of spelling
 later_bytes = refl
 
 -- Counting and writing lines of document 01's sheet P, of whose file document 02's No. 4 says: "For sheet P it is 69".
--- With kinds that admit all it has the same counts; with an empty set and a least length of 1 two unit clauses of five bytes more, and a digit.
-pub count_answers : map counting (P ∷ (P ++ (0 ∷ [])) ∷ plain2 ∷ empty_set ∷ []) ≡ finished (6 ∷ 8 ∷ 69 ∷ []) ∷ refused 9 ∷ finished (6 ∷ 8 ∷ 69 ∷ []) ∷ finished (6 ∷ 10 ∷ 80 ∷ []) ∷ []
-unfolding starts_with row times a_domain the_domains domains_of sides an_equation a_constraint walk width signed opening read each from any keep total cells terms left_out literals least spread sums has_bit excluded excluded_ids place_ids location_ids equation_ids constraint_ids listed ids k_variables s_variables t_variables variables number clause digits decimal problem_line clause_line line file_size counting
+pub count_answers : map counting (P ∷ (P ++ (0 ∷ [])) ∷ []) ≡ finished (6 ∷ 8 ∷ 69 ∷ []) ∷ refused 9 ∷ []
+unfolding starts_with row times sides an_equation a_constraint walk width signed opening read each from any keep total cells terms left_out literals least spread sums place_ids location_ids equation_ids constraint_ids listed ids k_variables s_variables t_variables variables number clause digits decimal problem_line clause_line line file_size counting
 count_answers = refl
 
 pub record Line : Type 0 where
@@ -187,10 +168,6 @@ lines =
     record { on = P; number = 0; room = 10; answer = finished (112 ∷ 32 ∷ 99 ∷ 110 ∷ 102 ∷ 32 ∷ 54 ∷ 32 ∷ 56 ∷ 10 ∷ []) }
     ∷ record { on = P; number = 4; room = 99; answer = finished (45 ∷ 51 ∷ 32 ∷ 45 ∷ 50 ∷ 32 ∷ 53 ∷ 32 ∷ 48 ∷ 10 ∷ []) }
     ∷ record { on = P; number = 8; room = 5; answer = finished (45 ∷ 53 ∷ 32 ∷ 48 ∷ 10 ∷ []) }
-    -- -1 0, -2 0 and 3 0: against the letter, against blank, and then S(0,0,0)
-    ∷ record { on = empty_set; number = 3; room = 5; answer = finished (45 ∷ 49 ∷ 32 ∷ 48 ∷ 10 ∷ []) }
-    ∷ record { on = empty_set; number = 4; room = 5; answer = finished (45 ∷ 50 ∷ 32 ∷ 48 ∷ 10 ∷ []) }
-    ∷ record { on = empty_set; number = 5; room = 5; answer = finished (51 ∷ 32 ∷ 48 ∷ 10 ∷ []) }
     -- each refusal, with the next one
     ∷ record { on = P ++ (0 ∷ []); number = 9; room = 0; answer = refused 9 }
     ∷ record { on = P; number = 9; room = 0; answer = refused 28 }
@@ -199,7 +176,7 @@ lines =
     ∷ []
 
 pub line_answers : map (λ (c : Line). writing c.on c.number c.room) lines ≡ map (λ (c : Line). c.answer) lines
-unfolding starts_with row times a_domain the_domains domains_of sides an_equation a_constraint walk width signed opening read each from any keep total cells terms left_out literals least spread sums has_bit excluded excluded_ids place_ids location_ids equation_ids constraint_ids listed ids k_variables s_variables t_variables variables number clause digits decimal problem_line clause_line line writing_of writing
+unfolding starts_with row times sides an_equation a_constraint walk width signed opening read each from any keep total cells terms left_out literals least spread sums place_ids location_ids equation_ids constraint_ids listed ids k_variables s_variables t_variables variables number clause digits decimal problem_line clause_line line writing_of writing
 line_answers = refl
 
 -- its whole file, of 69 bytes: in a buffer of so many, in a longer one, in one that is a byte too short; and the sheet's refusal, with the buffer's
@@ -216,8 +193,8 @@ file_p =
     ∷ 45 ∷ 53 ∷ 32 ∷ 48 ∷ 10
     ∷ []
 
-pub file_answers : filing P 69 ∷ filing plain2 69 ∷ filing P 100 ∷ filing P 68 ∷ filing P 0 ∷ filing (P ++ (0 ∷ [])) 68 ∷ [] ≡ finished file_p ∷ finished file_p ∷ finished file_p ∷ refused 29 ∷ refused 29 ∷ refused 9 ∷ []
-unfolding starts_with row times a_domain the_domains domains_of sides an_equation a_constraint walk width signed opening read each from any keep total cells terms left_out literals least spread sums has_bit excluded excluded_ids place_ids location_ids equation_ids constraint_ids listed ids k_variables s_variables t_variables variables number clause digits decimal problem_line clause_line line file filing_of filing
+pub file_answers : filing P 69 ∷ filing P 100 ∷ filing P 68 ∷ filing P 0 ∷ filing (P ++ (0 ∷ [])) 68 ∷ [] ≡ finished file_p ∷ finished file_p ∷ refused 29 ∷ refused 29 ∷ refused 9 ∷ []
+unfolding starts_with row times sides an_equation a_constraint walk width signed opening read each from any keep total cells terms left_out literals least spread sums place_ids location_ids equation_ids constraint_ids listed ids k_variables s_variables t_variables variables number clause digits decimal problem_line clause_line line file filing_of filing
 file_answers = refl
 
 -- Searching: 1 for a clash, and the first filling that clashes; 0 for apart.
@@ -239,10 +216,6 @@ searches =
     ∷ record { on = fieldless; room = 0; answer = finished (1 ∷ []) }
     -- P with limit 0
     ∷ record { on = sheet 1 1 1 0 (65 ∷ 0 ∷ 1 ∷ 1 ∷ 128 ∷ 0 ∷ []); room = 9; answer = finished (0 ∷ []) }
-    -- P with kinds that admit all, with an empty set under a least length of 1, and with B alone
-    ∷ record { on = plain2; room = 9; answer = finished (1 ∷ nine 1 0 255) }
-    ∷ record { on = empty_set; room = 9; answer = finished (0 ∷ []) }
-    ∷ record { on = only_b; room = 9; answer = finished (0 ∷ []) }
     -- the buffer, with a clash and apart; the sheet's refusal, with the buffer's
     ∷ record { on = P; room = 8; answer = refused 27 }
     ∷ record { on = asked; room = 17; answer = refused 27 }
@@ -251,7 +224,7 @@ searches =
     ∷ []
 
 pub search_answers : map (λ (c : Search). searching c.on c.room) searches ≡ map (λ (c : Search). c.answer) searches
-unfolding starts_with row times a_domain the_domains domains_of sides an_equation a_constraint walk width signed opening read each from all any same spell weight same_letter same_word equation_holds constraint_holds has_bit field_keeps keeps solves all_texts substitutions solvable keep total_length field_letters ranks lex earliest first_solution encode_filling searching_of searching
+unfolding starts_with row times sides an_equation a_constraint walk width signed opening read each from all any same spell weight same_letter same_word equation_holds constraint_holds keeps solves all_texts substitutions solvable keep total_length field_letters ranks lex earliest first_solution encode_filling searching_of searching
 search_answers = refl
 
 -- What the search program prints, for document 01's sheet P "`clash`, `field 0=A`, `pair 0=A`"; with limit 0, and with a byte left over.
@@ -260,7 +233,7 @@ pub search_prints : map search_printed (P ∷ sheet 1 1 1 0 (65 ∷ 0 ∷ 1 ∷ 
     ∷ (97 ∷ 112 ∷ 97 ∷ 114 ∷ 116 ∷ 10 ∷ [])
     ∷ (114 ∷ 101 ∷ 102 ∷ 117 ∷ 115 ∷ 101 ∷ 100 ∷ 32 ∷ 57 ∷ 10 ∷ [])
     ∷ []
-unfolding starts_with row times a_domain the_domains domains_of sides an_equation a_constraint walk width signed opening read each from all any same spell weight same_letter same_word equation_holds constraint_holds has_bit field_keeps keeps solves all_texts substitutions solvable keep total_length field_letters ranks lex earliest first_solution digits decimal refused_line report search_printed
+unfolding starts_with row times sides an_equation a_constraint walk width signed opening read each from all any same spell weight same_letter same_word equation_holds constraint_holds keeps solves all_texts substitutions solvable keep total_length field_letters ranks lex earliest first_solution digits decimal refused_line report search_printed
 search_prints = refl
 
 -- A book's list: the number of pairs, and their bytes.
@@ -292,7 +265,7 @@ compares =
     ∷ []
 
 pub compare_answers : map (λ (c : Compare). comparing c.on c.room) compares ≡ map (λ (c : Compare). c.answer) compares
-unfolding starts_with row times width count some_symbols a_template some_templates body opens read_book each from all any same spell weight same_letter same_word equation_holds constraint_holds has_bit field_keeps keeps solves all_texts substitutions solvable keep question.asked pairs clashing list_bytes listing comparing
+unfolding starts_with row times width count some_symbols a_template some_templates body opens read_book each from all any same spell weight same_letter same_word equation_holds constraint_holds keeps solves all_texts substitutions solvable keep question.asked pairs clashing list_bytes listing comparing
 compare_answers = refl
 
 -- A book's list with hours. The book has three empty templates, which all clash with each other.
@@ -330,5 +303,5 @@ schedules =
     ∷ []
 
 pub schedule_answers : map (λ (c : Scheduled). comparing_hours c.of_book c.of_hours c.room) schedules ≡ map (λ (c : Scheduled). c.answer) schedules
-unfolding starts_with row times width count some_symbols a_template some_templates body opens read_book minute an_interval some_intervals tested all_tested read_hours sent share sharing each from all any same spell weight same_letter same_word equation_holds constraint_holds has_bit field_keeps keeps solves all_texts substitutions solvable keep question.asked pairs clashing list_bytes listing comparing_hours
+unfolding starts_with row times width count some_symbols a_template some_templates body opens read_book minute an_interval some_intervals tested all_tested read_hours sent share sharing each from all any same spell weight same_letter same_word equation_holds constraint_holds keeps solves all_texts substitutions solvable keep question.asked pairs clashing list_bytes listing comparing_hours
 schedule_answers = refl

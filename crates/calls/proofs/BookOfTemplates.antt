@@ -28,7 +28,7 @@ use Rattle.book.proofs.Listed.{kept_pass, pass_kept, kept_in_order, kept_once, l
 use Rattle.calls.proofs.Searching as searches
 use Rattle.calls.proofs.Comparing.{listing-short, listing-fits, comparing-accepted, Listed, finished-listed, first-same}
 use Rattle.calls.proofs.Operations.{not_finished}
-use Rattle.calls.proofs.Ordered.{kept_goes, first-fails, first_or_none}
+use Rattle.calls.proofs.Ordered.{kept_goes, first_fails, first_or_none}
 use Rattle.calls.proofs.Demands.{InOrder, Unchanged, in_order}
 use Rattle.calls.proofs.FirstRefusals.{decision_ordered}
 use Rattle.calls.proofs.BookRefusals.{book_follows, comparing_ordered}
@@ -146,7 +146,7 @@ lists_are-short k ok = omega (arith, list_size (clashing k), kept-few (clash k) 
 pub accepted-breaks-none : (b : List ℕ) → ((k : Book) × (read_book b ≡ book.accepted k)) ↔ Kept (book_rules b)
 accepted-breaks-none b =
     let f = book_follows b in (
-      (λ a. first_or_none (book_rules b) (λ h. h) (λ n broken. not_accepted (sym (first-fails book.refused (book_rules b) (book.accepted f.0) broken) ∙ sym f.1 ∙ a.1))),
+      (λ a. first_or_none (book_rules b) (λ h. h) (λ n broken. not_accepted (sym (first_fails book.refused (book_rules b) (book.accepted f.0) broken) ∙ sym f.1 ∙ a.1))),
       λ h. (f.0, f.1 ∙ kept_goes book.refused (book_rules b) (book.accepted f.0) h),
     )
   where

@@ -18,7 +18,7 @@ use Rattle.book.specs.Pairs.{clashing}
 use Rattle.calls.specs.Calls.{refused, of_book, list_values, listing, comparing}
 use Rattle.calls.specs.Rules.{Rule, ◌asks◌, symbols_at, count_rules, symbols_rules, template_rules, template_bytes, templates_at, book_end, body_rules, as_book, mark_rules, book_rules, list_rule, comparing_rules}
 use Rattle.model.proofs.Lists.{by_test}
-use Rattle.calls.proofs.Ordered.{in_order_lem, order_append, order_through, kept_goes, first-fails, Ordered, ordered_after, Follows, follows_from, follows_wrapped, follows_got, follows_must}
+use Rattle.calls.proofs.Ordered.{in_order_lem, order_append, order_through, kept_goes, first_fails, Ordered, ordered_after, Follows, follows_from, follows_wrapped, follows_got, follows_must}
 use Rattle.calls.proofs.FirstRefusals.{row_then, several_follow}
 
 -- a mark and a version are three tests with one number
@@ -110,4 +110,4 @@ comparing_ordered b room =
     let is = (book_follows b).1 in
     ordered_after (book_rules b) (list_rule (clashing (book_of b)) room ∷ []) (comparing b room)
     (λ h. let r : read_book b ≡ book.accepted k = is ∙ kept_goes book.refused (book_rules b) (book.accepted k) h in rw r (record { values = list_values (clashing k); is = refl }))
-    (λ n f. ap (λ x. of_book x (λ k. listing (clashing k) room)) (is ∙ first-fails book.refused (book_rules b) (book.accepted k) f))
+    (λ n f. ap (λ x. of_book x (λ k. listing (clashing k) room)) (is ∙ first_fails book.refused (book_rules b) (book.accepted k) f))

@@ -4,8 +4,8 @@ use mathlib.Core.Path.{◌≡◌, refl}
 use mathlib.Core.List.{List, [], ◌∷◌, ◌++◌, map}
 use Prim.Native.Nat.{ℕ}
 use Rattle.model.specs.Lists.{starts_with, same, each, from, all, any, keep, total}
-use Rattle.model.specs.Sheet.{has_bit, row, times, a_domain, the_domains, domains_of, sides, an_equation, a_constraint, walk, width, signed, opening, read}
-use Rattle.model.specs.Word.{spell, weight, same_letter, same_word, equation_holds, constraint_holds, field_keeps, keeps, solves}
+use Rattle.model.specs.Sheet.{row, times, sides, an_equation, a_constraint, walk, width, signed, opening, read}
+use Rattle.model.specs.Word.{spell, weight, same_letter, same_word, equation_holds, constraint_holds, keeps, solves}
 use Rattle.model.specs.Filling.{encode_filling}
 use Rattle.model.specs.Cells.{cells}
 use Rattle.formula.specs.Clause.{least, spread, sums}
@@ -15,7 +15,7 @@ use Rattle.formula.specs.Assignment.{true_values, up_to_blank, spelled}
 use Rattle.calls.specs.Reply.{split, satisfiable_line, line_ended, is_number, value_line, known, before, one_status, line_numbers, given, closed, in_count, distinct, assigned, all_single, blanks_last, none_after_blank}
 use Rattle.calls.specs.Calls.{Answer, refused, finished, formed, decoding, replying_of, replying}
 use Rattle.model.proofs.Computed.{sheet, P}
-use Rattle.calls.proofs.Answers.{asked, left_over_lem, fieldless, ruled, nine, empty, empty_set}
+use Rattle.calls.proofs.Answers.{asked, left_over_lem, fieldless, ruled, nine, empty}
 
 -- X of limit 1 against A, and Y of limit 1 in no template
 abbrev unused : List ℕ
@@ -120,8 +120,6 @@ replies =
     ∷ (of asked 18 (sat ++ (118 ∷ 32 ∷ 51 ∷ 32 ∷ 52 ∷ 32 ∷ 57 ∷ 32 ∷ 48 ∷ 10 ∷ [])) (refused 38))
     -- P: s SATISFIABLE\nv 2 0\n
     ∷ (of P 9 (sat ++ (118 ∷ 32 ∷ 50 ∷ 32 ∷ 48 ∷ 10 ∷ [])) (refused 39))
-    -- A against A, where the field's set is empty
-    ∷ (of empty_set 9 (sat ++ (118 ∷ 32 ∷ 49 ∷ 32 ∷ 48 ∷ 10 ∷ [])) (refused 39))
     -- asked: s SATISFIABLE\nv 3 6 7 0\n
     ∷ (of asked 18 (sat ++ (118 ∷ 32 ∷ 51 ∷ 32 ∷ 54 ∷ 32 ∷ 55 ∷ 32 ∷ 48 ∷ 10 ∷ [])) (refused 39))
     -- unused: s SATISFIABLE\nv 1 0\n
@@ -187,5 +185,5 @@ replies =
     ∷ []
 
 pub answers : map (λ (r : Reply). replying r.on r.text r.room) replies ≡ map (λ (r : Reply). r.answer) replies
-unfolding starts_with same each from all any keep total row times a_domain the_domains domains_of sides an_equation a_constraint walk width signed opening read spell weight same_letter same_word equation_holds constraint_holds has_bit field_keeps keeps solves encode_filling cells least spread sums k_variables s_variables t_variables variables number numbers_from true_values up_to_blank spelled split line_ended is_number value_line known before one_status line_numbers given closed in_count distinct assigned all_single blanks_last none_after_blank formed decoding replying_of replying
+unfolding starts_with same each from all any keep total row times sides an_equation a_constraint walk width signed opening read spell weight same_letter same_word equation_holds constraint_holds keeps solves encode_filling cells least spread sums k_variables s_variables t_variables variables number numbers_from true_values up_to_blank spelled split line_ended is_number value_line known before one_status line_numbers given closed in_count distinct assigned all_single blanks_last none_after_blank formed decoding replying_of replying
 answers = refl

@@ -36,9 +36,9 @@ module _ (s : Sheet) (w : Assignment) where
     decoding-blank e = rw (single, e)
 
     module _ (last : none_after_blank s w ≡ true) where
-      pub decoding-fails : solves s (spelled s w) ≡ false → decoding s w ≡ refused 39
+      pub decoding_fails : solves s (spelled s w) ≡ false → decoding s w ≡ refused 39
       unfolding decoding
-      decoding-fails e = rw (single, last, e)
+      decoding_fails e = rw (single, last, e)
 
       pub decoding_hands : solves s (spelled s w) ≡ true → decoding s w ≡ finished (encode_filling (spelled s w))
       unfolding decoding

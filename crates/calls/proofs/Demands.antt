@@ -35,7 +35,7 @@ use Rattle.calls.proofs.Searching as searches
 use Rattle.formula.proofs.Satisfiable as clauses
 use Rattle.calls.proofs.Untrusted as replies
 use Rattle.calls.proofs.Listings.{has_listing}
-use Rattle.calls.proofs.Ordered.{Ordered, kept_goes, first-fails, first_or_none}
+use Rattle.calls.proofs.Ordered.{Ordered, kept_goes, first_fails, first_or_none}
 use Rattle.calls.proofs.FirstRefusals.{reading_ordered, checking_ordered, spelling_ordered, searching_ordered, counting_ordered, writing_ordered, replying_ordered, sized_ordered, unnumbered_ordered, decision_ordered}
 
 -- Demand 1, of all inputs. The rules of each call stand in document 01's order in specs/Rules.
@@ -53,18 +53,18 @@ Unchanged answer before after = (n : ℕ) → answer ≡ refused n → after ≡
 pub in_order : {rules : List Rule} {answer : Answer} → Ordered rules answer → InOrder rules answer
 in_order {rules} {answer} o = record {
   first = λ n. (
-    (λ f. o.is ∙ first-fails refused rules _ f),
+    (λ f. o.is ∙ first_fails refused rules _ f),
     λ q. first_or_none rules (λ h. not_finished (sym q ∙ o.is ∙ kept_goes refused rules _ h)) (same_number n q),
   );
   none = (
     (λ h. (o.values, o.is ∙ kept_goes refused rules _ h)),
-    λ q. first_or_none rules (λ h. h) (λ n f. not_finished (sym (first-fails refused rules _ f) ∙ sym o.is ∙ q.1)),
+    λ q. first_or_none rules (λ h. h) (λ n f. not_finished (sym (first_fails refused rules _ f) ∙ sym o.is ∙ q.1)),
   );
 }
   where
     same_number : (n : ℕ) → answer ≡ refused n → (k : ℕ) → First k rules → First n rules
     same_number n q k f =
-        let same = sym (first-fails refused rules (finished o.values) f) ∙ sym o.is ∙ q in
+        let same = sym (first_fails refused rules (finished o.values) f) ∙ sym o.is ∙ q in
         let z : k ≡ n = cc in
         subst (λ i. First i rules) z f
 
@@ -166,7 +166,7 @@ pub figures_say_the_number : (n : ℕ) → value_of (decimal n) ≡ n
 figures_say_the_number n = decimal-value n
 
 -- Demand 3. "In demand 3 a buffer is long enough from 9 × V bytes on."
-abbrev pub filling_bytes : List ℕ → ℕ
+abbrev filling_bytes : List ℕ → ℕ
 filling_bytes b = 9 * length (sheet_of b).limits
 
 -- a filling that clashes stands in the first 9 × V bytes, and later ones are unchanged

@@ -123,8 +123,8 @@ module _ (b : List ℕ) (v c n room : ℕ) (counted : counting b ≡ finished (v
   pub too_short_as_counted : room < n → filing b room ≡ refused 29
   too_short_as_counted h = (too_short_exactly b is-accepted room).1 (omega (arith, counting_exact b counted, file_size_lem (sheet_of b)))
 
--- the first 172 bytes of a sheet decide
-pub a_prefix_decides : (b : List ℕ) (room : ℕ) → filing b room ≡ filing (take 172 b) room
+-- the first 160 bytes of a sheet decide
+pub a_prefix_decides : (b : List ℕ) (room : ℕ) → filing b room ≡ filing (take 160 b) room
 a_prefix_decides = filing_prefix
 
 -- Demand 1 of it: the sheet's refusals, then 29; and no lent byte changes.

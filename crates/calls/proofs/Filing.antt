@@ -27,12 +27,12 @@ module _ (b : List ℕ) (room : ℕ) where
     unfolding filing filing_of
     filing-file h = sheet_accepted b _ ok ∙ rw (le-leb (length (file (sheet_of b))) room h)
 
--- no refusal has the number 0, and the first 172 bytes of a sheet decide
+-- no refusal has the number 0, and the first 160 bytes of a sheet decide
 pub filing-refused : (b : List ℕ) (room n : ℕ) → filing b room ≡ refused n → 1 ≤ n
 unfolding filing filing_of
 filing-refused b room = not_zero (filing b room) (not_zero_sheet b _ (λ s. not_zero_require (leb (length (file s)) room) 29 _ (omega arith) tt))
 
-pub filing_prefix : (b : List ℕ) (room : ℕ) → filing b room ≡ filing (take 172 b) room
+pub filing_prefix : (b : List ℕ) (room : ℕ) → filing b room ≡ filing (take 160 b) room
 unfolding filing
 filing_prefix b room = ap (λ r. of_sheet r (λ s. filing_of s room)) (read_prefix b)
 

@@ -4,10 +4,10 @@ use mathlib.Core.Path.{◌≡◌, sym, ap, ◌∙◌}
 use mathlib.Core.Logic.{◌⊎◌, ◌↔◌}
 use mathlib.Core.Bool.{true, false}
 use mathlib.Core.List.{List, ◌++◌}
-use Prim.Native.Nat.{ℕ, ◌<◌, ◌*◌, ◌≤◌}
+use Prim.Native.Nat.{ℕ, ◌*◌, ◌≤◌}
 use lib.ListN.{length, take, drop}
 use Rattle.model.specs.Lists.{Bytes}
-use Rattle.model.specs.Sheet.{domain, Sheet, Accepted, sheet_of}
+use Rattle.model.specs.Sheet.{Sheet, Accepted, sheet_of}
 use Rattle.model.specs.Word.{Substitution, text, Legal}
 use Rattle.model.specs.Solvable.{solvable}
 use Rattle.model.specs.Order.{Earlier, IsFirst, first_solution}
@@ -16,7 +16,7 @@ use Rattle.calls.specs.Calls.{Answer, verdict, searching, Decides}
 use Rattle.model.proofs.Order.{earlier_irreflexive, earlier_transitive, one_is-earlier}
 use Rattle.model.proofs.ByFields.{ByFields, earlier_by_fields}
 use Rattle.model.proofs.First.{first-only}
-use Rattle.model.proofs.Unused.{Unasked, unasked_least}
+use Rattle.model.proofs.Unused.{Unasked, unasked_empty}
 use Rattle.calls.proofs.Searching.{searching-verdict, verdict-told, clash-first, clash_handed, clash-taken}
 
 -- "The order is: least total field length; then the shorter field 0, field 1 and so on; then the lower letter numbers, field by field from the left." Of two
@@ -45,9 +45,9 @@ pub record HandsOverTheFirst (b before after : List ℕ) : Type 0 where
 pub first-is_one : (s : Sheet) (g h : Substitution) → IsFirst s g → IsFirst s h → g ≡ h
 first-is_one s g h p q = first-only s g p ∙ sym (first-only s h q)
 
--- a field that stands in no template and counts in no rule has its least length in it (in version 1: it is empty)
-pub unasked_field-is_shortest : (s : Sheet) (g : Substitution) → IsFirst s g → (f : ℕ) → f < length s.limits → Unasked s f → length (text g f) ≡ (domain s f).least
-unasked_field-is_shortest = unasked_least
+-- a field that stands in no template and counts in no rule is empty in it
+pub unasked_field-is_empty : (s : Sheet) (g : Substitution) → IsFirst s g → (f : ℕ) → Unasked s f → length (text g f) ≡ 0
+unasked_field-is_empty = unasked_empty
 
 module _ (b : List ℕ) (y : Bytes b) where
   module _ (before after : List ℕ) (answer : Answer) (call : Decides (searching b (length before)) before answer after) where

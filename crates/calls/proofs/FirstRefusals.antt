@@ -1,17 +1,15 @@
 -- Each call asks its rules in document 01's order. The walk through a sheet's bytes, and that through a filling's, asks in turn what the lists of
 -- specs/Rules say by offset; so a call's answer is the refusal of the first rule that is broken, or its values. Assumes nothing.
-use mathlib.Core.Path.{◌≡◌, refl, sym, ap, subst, ◌∙◌}
-use mathlib.Core.Bool.{Bool, true, false}
-use mathlib.Core.List.{List, [], ◌∷◌, ◌++◌, map, append-nil}
+use mathlib.Core.Path.{◌≡◌, refl, sym, ap, ◌∙◌}
+use mathlib.Core.List.{List, [], ◌∷◌, ◌++◌, append-nil}
 use Prim.Native.Nat.{ℕ, zero, suc, ◌+◌, ◌*◌, ◌≤◌}
 use native.Mathlib.Omega.{arith}
 use lib.Dec.{leb, ltb, eqb}
-use lib.ListN.{length, get_or, take, drop, length-take, length-drop, drop_of_length-le}
+use lib.ListN.{length, get_or, take, drop, drop_of_length-le}
 use lib.Seq.{drop-cons, get_or-take, get_or-drop}
 use borrow.Author.Tests.{ltb-true, ltb-false, leb-true, leb-false, eqb-true}
-use Rattle.model.specs.Lists.{pick, when}
 use Rattle.model.specs.Sheet as sheet
-use Rattle.model.specs.Sheet.{Sheet, unrestricted, Step, got, fault, ◌then◌, must, Role, letter_byte, limit_byte, least_byte, set_byte, count_byte, template_byte, coefficient_byte, most_byte, passes, refusal_of, width, row, times, a_domain, the_domains, domains_of, sides, an_equation, a_constraint, walk, opening, byte, Counts, counts_at, ended, read, counts_of, sheet_of}
+use Rattle.model.specs.Sheet.{Sheet, Step, got, fault, ◌then◌, must, Role, letter_byte, limit_byte, count_byte, template_byte, coefficient_byte, most_byte, passes, refusal_of, width, row, times, sides, an_equation, a_constraint, walk, opening, byte, Counts, counts_at, ended, read, counts_of, sheet_of}
 use Rattle.model.specs.Word.{Substitution}
 use Rattle.model.specs.Mismatch.{judged}
 use Rattle.model.specs.Filling.{places, a_text, texts, filling, encode_filling, substitution_in}
@@ -19,10 +17,10 @@ use Rattle.formula.specs.Dimacs.{line, file}
 use Rattle.formula.specs.Assignment.{spelled}
 use Rattle.calls.specs.Reply.{assigned}
 use Rattle.calls.specs.Calls.{Answer, refused, finished, of_sheet, of_filling, require, four_counts, reading, judgement_values, checking, spelled_text, spelling_of, spelling, search_values, searching_of, searching, decision, clause_counts, counting, writing_of, writing, filing_of, filing, formed, decoding, replying_of, replying, sized, unnumbered}
-use Rattle.calls.specs.Rules.{Rule, ◌asks◌, row_rules, several_rules, past, domain_rules, domains_rules, equations_at, symbols_at, sides_rules, equation_rules, equation_bytes, constraint_rules, constraints_at, end_at, walk_rules, opening_rules, sheet_rules, place_rules, text_rules, filling_rules, after_sheet, spelling_rules, room_rule, writing_rules, filing_rule, replying_rules}
+use Rattle.calls.specs.Rules.{Rule, ◌asks◌, row_rules, several_rules, past, symbols_at, sides_rules, equation_rules, equation_bytes, constraint_rules, constraints_at, end_at, walk_rules, opening_rules, sheet_rules, place_rules, text_rules, filling_rules, after_sheet, spelling_rules, room_rule, writing_rules, filing_rule, replying_rules}
 use Rattle.model.proofs.Lists.{by_test}
 use Rattle.formula.proofs.Lines.{file_size_lem}
-use Rattle.calls.proofs.Ordered.{in_order_lem, order_through, order_append, kept_goes, first-fails, Ordered, ordered_after, Follows, order_then, follows_from, follows_then, follows_wrapped, follows_got, follows_must}
+use Rattle.calls.proofs.Ordered.{in_order_lem, order_through, order_append, kept_goes, first_fails, Ordered, ordered_after, Follows, order_then, follows_from, follows_then, follows_wrapped, follows_got, follows_must}
 
 -- A sheet.
 ended_order : (rules : List Rule) (w : Step Sheet) → ended (in_order_lem fault rules w) ≡ in_order_lem sheet.refused rules (ended w)
@@ -47,29 +45,6 @@ module _ (b : List ℕ) where
   pub row_then : {A : Type 0} (role : Role) (k n : ℕ) (go : List ℕ → List ℕ → Step A) {rules : List Rule} {left : List ℕ}
       → Follows (go (take n (drop k b)) (drop (k + n) b)) rules left → Follows (row role 0 n (drop k b) then go) (row_rules b role 0 k n ++ rules) left
   row_then role k n go h = follows_from (row role 0 n (drop k b)) (row_rules b role 0 k n) (take n (drop k b)) (drop (k + n) b) go (row_follows role 0 k n) h
-
-  -- a domain, one for each limit, and those of a version
-  domain_follows : (l limit k : ℕ) → Follows (a_domain l limit (drop k b)) (domain_rules b l limit k) (drop (k + 2) b)
-  unfolding a_domain
-  domain_follows l limit k =
-      let e : k + 1 + 1 ≡ k + 2 = omega arith in
-      row_then (least_byte limit) k 1 _ (follows_wrapped _ (record { value = take 1 (drop (k + 1) b); is = rw e at (row_follows (set_byte l) 0 (k + 1) 1) }))
-
-  several_domains : (l : ℕ) (limits : List ℕ) (k : ℕ) → Follows (the_domains l limits (drop k b)) (domains_rules b l limits k) (drop (k + 2 * length limits) b)
-  unfolding the_domains domains_rules
-  several_domains l [] k = let e : k + 0 ≡ k = omega arith in rw e (follows_got [] (drop k b))
-  several_domains l (limit ∷ limits) k =
-      let e : k + 2 + 2 * length limits ≡ k + 2 * length (limit ∷ limits) = omega arith in
-      follows_then _ (domain_follows l limit k) (λ d. follows_wrapped (λ ds. d ∷ ds) (rw e at (several_domains l limits (k + 2))))
-
-  domains_follow : (version l : ℕ) (limits : List ℕ) (k : ℕ)
-      → Follows (domains_of version l limits (drop k b)) (when (eqb version 2) (domains_rules b l limits k)) (drop (k + pick (eqb version 2) (2 * length limits) 0) b)
-  unfolding domains_of
-  domains_follow version l limits k = by (eqb version 2)
-    where
-      by : (two : Bool) → Follows (pick two (the_domains l limits (drop k b)) (got (map (λ n. unrestricted l) limits) (drop k b))) (when two (domains_rules b l limits k)) (drop (k + pick two (2 * length limits) 0) b)
-      by true = several_domains l limits k
-      by false = let e : k + 0 ≡ k = omega arith in rw e (follows_got (map (λ n. unrestricted l) limits) (drop k b))
 
   sides_follow : (l : ℕ) (limits : List ℕ) (m n k : ℕ) → Follows (sides l limits m n (drop k b)) (sides_rules b l limits m n k) (drop (k + m + n) b)
   unfolding sides sides_rules
@@ -106,18 +81,6 @@ module _ (b : List ℕ) where
   several_follow one rules taken h zero k = follows_got [] (drop k b)
   several_follow one rules taken h (suc n) k = follows_then _ (h k) (λ a. follows_wrapped (λ more. a ∷ more) (several_follow one rules taken h n (k + taken k)))
 
-  -- past the limits, by their number: of a sheet that is too short for them nothing is left either way
-  past-domains : (version l v : ℕ) → drop (9 + l + v + pick (eqb version 2) (2 * length (take v (drop (9 + l) b))) 0) b ≡ drop (9 + l + v + pick (eqb version 2) (2 * v) 0) b
-  past-domains version l v = by_test (leb (9 + l + v) (length b))
-      (λ t.
-      let h = leb-true (9 + l + v) (length b) t in
-      let n : length (take v (drop (9 + l) b)) ≡ v = rw (length-take v (drop (9 + l) b), length-drop (9 + l) b) (omega arith) in
-      ap (λ m. drop (9 + l + v + pick (eqb version 2) (2 * m) 0) b) n)
-      (λ t.
-      let h = leb-false (9 + l + v) (length b) t in
-      let few : (m : ℕ) → length b ≤ 9 + l + v + m = λ m. omega arith in
-      drop_of_length-le b (few (pick (eqb version 2) (2 * length (take v (drop (9 + l) b))) 0)) ∙ sym (drop_of_length-le b (few (pick (eqb version 2) (2 * v) 0))))
-
   walk_follows : (c : Counts) → Follows (walk c (drop 9 b)) (walk_rules b c) (drop (end_at b c) b)
   unfolding walk walk_rules
   walk_follows c =
@@ -126,9 +89,8 @@ module _ (b : List ℕ) where
       let limits : List ℕ = take v (drop (9 + l) b) in
       row_then letter_byte 9 l _
       (row_then limit_byte (9 + l) v _
-      (follows_then _ (subst (Follows (domains_of c.version l limits (drop (9 + l + v) b)) (when (eqb c.version 2) (domains_rules b l limits (9 + l + v)))) (past-domains c.version l v) (domains_follow c.version l limits (9 + l + v)))
-      (λ ds. follows_then _ (several_follow (an_equation l limits) (equation_rules b l limits) (equation_bytes b) (equation_follows l limits) c.equation_count (equations_at c))
-      (λ es. follows_wrapped _ (several_follow (a_constraint v) (constraint_rules b v) (λ k. v + 2) (constraint_follows v) c.constraint_count (constraints_at b c))))))
+      (follows_then _ (several_follow (an_equation l limits) (equation_rules b l limits) (equation_bytes b) (equation_follows l limits) c.equation_count (9 + l + v))
+      (λ es. follows_wrapped _ (several_follow (a_constraint v) (constraint_rules b v) (λ k. v + 2) (constraint_follows v) c.constraint_count (constraints_at b c)))))
 
   opening_follows : opening b ≡ in_order_lem fault (opening_rules b) (got (counts_at b) (drop 9 b))
   unfolding opening in_order_lem
@@ -201,7 +163,7 @@ module _ (b : List ℕ) (go : Sheet → Answer) (own : Sheet → List Rule) (ord
       let is = (read_follows b).1 in
       ordered_after (sheet_rules b) (own (sheet_of b)) (of_sheet (read b) go)
       (λ h. let r : read b ≡ sheet.accepted s = is ∙ kept_goes sheet.refused (sheet_rules b) (sheet.accepted s) h in rw r (ordered s))
-      (λ n f. ap (λ x. of_sheet x go) (is ∙ first-fails sheet.refused (sheet_rules b) (sheet.accepted s) f))
+      (λ n f. ap (λ x. of_sheet x go) (is ∙ first_fails sheet.refused (sheet_rules b) (sheet.accepted s) f))
 
 module _ (s : Sheet) (m : List ℕ) (go : Substitution → Answer) (own : Substitution → List Rule) (ordered : (g : Substitution) → Ordered (own g) (go g)) where
   after_filling : Ordered (filling_rules s m ++ own (substitution_in (filling s m))) (of_filling (filling s m) go)
@@ -210,7 +172,7 @@ module _ (s : Sheet) (m : List ℕ) (go : Substitution → Answer) (own : Substi
       let end = drop (9 * length s.limits) m in
       ordered_after (filling_rules s m) (own (substitution_in (filling s m))) (of_filling (filling s m) go)
       (λ h. let r : filling s m ≡ got f.value end = f.is ∙ kept_goes fault (filling_rules s m) (got f.value end) h in rw r (ordered f.value))
-      (λ n k. ap (λ x. of_filling x go) (f.is ∙ first-fails fault (filling_rules s m) (got f.value end) k))
+      (λ n k. ap (λ x. of_filling x go) (f.is ∙ first_fails fault (filling_rules s m) (got f.value end) k))
 
 -- a call that has no rules of its own
 sheet_alone : (b : List ℕ) (values : Sheet → List ℕ) → Ordered (sheet_rules b) (of_sheet (read b) (λ s. finished (values s)))

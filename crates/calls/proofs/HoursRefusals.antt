@@ -21,7 +21,7 @@ use Rattle.calls.specs.Rules.{Rule, ◌asks◌, several_rules, past, mark_rules,
 use Rattle.model.proofs.Lists.{by_test}
 use Rattle.book.proofs.Opening.{opens-long}
 use Rattle.schedule.proofs.Offsets.{read_shut, read_strays, read_fits}
-use Rattle.calls.proofs.Ordered.{in_order_lem, order_append, kept_goes, first-fails, Ordered, ordered_after}
+use Rattle.calls.proofs.Ordered.{in_order_lem, order_append, kept_goes, first_fails, Ordered, ordered_after}
 use Rattle.calls.proofs.BookRefusals.{mark_follows, book_follows}
 
 module _ (h : List ℕ) where
@@ -118,7 +118,7 @@ module _ (b h : List ℕ) (room : ℕ) where
       let s : Schedule = laid h 5 n in
       ordered_after (hours_rules n h) (list k (schedule_of n h)) (of_hours (read_hours n h) (λ s. listing (sharing k s) room))
       (λ kept. let r : read_hours n h ≡ schedule.accepted s = hours_follow h n ∙ kept_goes schedule.refused (hours_rules n h) (schedule.accepted s) kept in rw r (record { values = list_values (sharing k s); is = refl }))
-      (λ m f. ap (λ x. of_hours x (λ s. listing (sharing k s) room)) (hours_follow h n ∙ first-fails schedule.refused (hours_rules n h) (schedule.accepted s) f))
+      (λ m f. ap (λ x. of_hours x (λ s. listing (sharing k s) room)) (hours_follow h n ∙ first_fails schedule.refused (hours_rules n h) (schedule.accepted s) f))
 
   pub comparing_hours_ordered : Ordered (comparing_hours_rules b h room) (comparing_hours b h room)
   unfolding comparing_hours comparing_hours_rules book_of
@@ -127,4 +127,4 @@ module _ (b h : List ℕ) (room : ℕ) where
       let is = (book_follows b).1 in
       ordered_after (book_rules b) _ (comparing_hours b h room)
       (λ kept. let r : read_book b ≡ book.accepted k = is ∙ kept_goes book.refused (book_rules b) (book.accepted k) kept in rw r (of_hours_lem k))
-      (λ n f. ap (λ x. of_book x (λ k. of_hours (read_hours (length k.templates) h) (λ s. listing (sharing k s) room))) (is ∙ first-fails book.refused (book_rules b) (book.accepted k) f))
+      (λ n f. ap (λ x. of_book x (λ k. of_hours (read_hours (length k.templates) h) (λ s. listing (sharing k s) room))) (is ∙ first_fails book.refused (book_rules b) (book.accepted k) f))

@@ -8,23 +8,22 @@ use Prim.Native.Nat.{ℕ, zero, suc, ◌+◌, ◌<◌, ◌≤◌}
 use native.Mathlib.Omega.{arith}
 use lib.Dec.{ltb}
 use lib.IntN.{pos}
-use lib.ListN.{length, get_or, take, length-drop, take-append-drop}
+use lib.ListN.{length, take, length-drop, take-append-drop}
 use borrow.Author.Tests.{ltb-true, ltb-false}
-use Rattle.model.specs.Lists.{up_to, All, Bytes}
+use Rattle.model.specs.Lists.{All, Bytes}
 use Rattle.model.specs.Sheet as sheet
 use Rattle.model.specs.Sheet.{Sheet, Equation, Step, got, fault, Reading, read, equation, constraint, sheet_of}
-use Rattle.model.specs.Word.{Substitution, spell, SameWord, EquationHolds, ConstraintHolds, FieldKeeps, Solves, equation_holds, constraint_holds, field_keeps, solves}
-use Rattle.model.specs.Mismatch.{agreeing, rest_side, rest_word, Judgement, solution, differs, breaks, outside, is_solution, first_pair, judged}
+use Rattle.model.specs.Word.{Substitution, spell, SameWord, EquationHolds, ConstraintHolds, Solves, equation_holds, constraint_holds, solves}
+use Rattle.model.specs.Mismatch.{agreeing, rest_side, rest_word, Judgement, solution, differs, breaks, is_solution, first_pair, judged}
 use Rattle.model.specs.Filling.{filling}
 use Rattle.calls.specs.Calls.{finished, of_sheet, of_filling, judgement_values, checking, verdict, decision}
-use Rattle.model.proofs.Lists.{never, by_test, below_out}
-use Rattle.model.proofs.Keeping.{length_from, from_is, below_in, take_up_to}
+use Rattle.model.proofs.Lists.{never, by_test, weaken, all_out, all_in}
 use Rattle.model.proofs.Known.{accepted_in_range}
 use Rattle.model.proofs.Templates.{template-room}
-use Rattle.model.proofs.Words.{same-word-equal, equal-same-word, equation_out, equation_in, constraint_out, constraint_in, field-keeps_out, field-keeps_in}
+use Rattle.model.proofs.Words.{same-word-equal, equal-same-word, equation_out, equation_in, constraint_out, constraint_in}
 use Rattle.model.proofs.Mismatches.{agree_left, agree_right, agree_same, agree-most, rest-left, rest-right, same-all-agree, same-none-left, none-left-same}
-use Rattle.model.proofs.Leading.{leading_have, leading_has_not, leading-first, all_have, none-lacks}
-use Rattle.model.proofs.Judged.{solves-judged, PairTold, RuleTold, FieldTold, told_pair, pair_told, told_rule, rule_told, told-field, field_told}
+use Rattle.model.proofs.Leading.{all_lead, not_all_lead, leading_have, leading_has_not, leading-first}
+use Rattle.model.proofs.Judged.{solves-judged, PairTold, RuleTold, told_pair, pair_told, told_rule, rule_told}
 use Rattle.calls.proofs.Passed.{decides, FillingOf, checking_judges, passed_solves}
 use Rattle.calls.proofs.Operations.{same-values}
 
@@ -78,16 +77,8 @@ pub record FirstBroken (s : Sheet) (g : Substitution) (r : ℕ) : Type 0 where
   pub hold_before : All (ConstraintHolds s g) (take r s.constraints)
   pub does_not_hold : ConstraintHolds s g (constraint s r) → ⊥
 
--- No. 7: "When pairs and rules hold, .. the first field that breaks its kind": those before it keep theirs
-pub record FirstOutside (s : Sheet) (g : Substitution) (f : ℕ) : Type 0 where
-  pub same_texts : All (EquationHolds s g) s.equations
-  pub all_hold : All (ConstraintHolds s g) s.constraints
-  pub is_field : f < length s.limits
-  pub keep_before : (k : ℕ) → k < f → FieldKeeps s g k
-  pub does_not_keep : FieldKeeps s g f → ⊥
-
 module _ (s : Sheet) (g : Substitution) where
-  -- as `Judged.antt` has the three
+  -- as `Judged.antt` has the two
   pair_out : (p n side rest : ℕ) → PairTold s g p n side rest → FirstDiffers s g p n side rest
   pair_out p n side rest t = record {
     is_pair = t.is_pair;
@@ -107,16 +98,9 @@ module _ (s : Sheet) (g : Substitution) where
     left_over = f.left_over;
   }
 
-  -- all hold where none comes first that does not
-  all_same : length s.equations ≤ first_pair s g → All (EquationHolds s g) s.equations
-  all_same = all_have (equation_holds s g) (EquationHolds s g) (equation_out s g) (equation_in s g) s.equations
-
-  none-differs : All (EquationHolds s g) s.equations → length s.equations ≤ first_pair s g
-  none-differs = none-lacks (equation_holds s g) (EquationHolds s g) (equation_out s g) (equation_in s g) s.equations
-
   rule_out : (r : ℕ) → RuleTold s g r → FirstBroken s g r
   rule_out r t = record {
-    same_texts = all_same t.pairs_hold;
+    same_texts = weaken _ (EquationHolds s g) s.equations (equation_out s g) (all_out (equation_holds s g) s.equations (all_lead (equation_holds s g) s.equations t.pairs_hold));
     is_rule = t.is_rule;
     hold_before = leading_have (constraint_holds s g) (ConstraintHolds s g) (constraint_out s g) (constraint_in s g) s.constraints r t.is_first;
     does_not_hold = leading_has_not (constraint_holds s g) (ConstraintHolds s g) (constraint_out s g) (constraint_in s g) s.constraints r (record { coefficients = []; most = pos 0 }) t.is_first t.is_rule;
@@ -124,62 +108,25 @@ module _ (s : Sheet) (g : Substitution) where
 
   rule_in : (r : ℕ) → FirstBroken s g r → RuleTold s g r
   rule_in r f = record {
-    pairs_hold = none-differs f.same_texts;
+    pairs_hold = by_test (ltb (first_pair s g) (length s.equations))
+        (λ t. never (
+        sym (not_all_lead (equation_holds s g) s.equations (ltb-true (first_pair s g) (length s.equations) t))
+        ∙ all_in (equation_holds s g) s.equations (weaken (EquationHolds s g) _ s.equations (equation_in s g) f.same_texts)))
+        (λ t. ltb-false (first_pair s g) (length s.equations) t);
     is_first = leading-first (constraint_holds s g) (ConstraintHolds s g) (constraint_out s g) (constraint_in s g) s.constraints r (record { coefficients = []; most = pos 0 }) f.is_rule f.hold_before f.does_not_hold;
     is_rule = f.is_rule;
   }
-
-  abbrev numbers : List ℕ
-  numbers = up_to (length s.limits)
-
-  counted : length numbers ≡ length s.limits
-  counted = length_from 0 (length s.limits)
-
-  numbered : (f : ℕ) → f < length s.limits → get_or numbers f 0 ≡ f
-  numbered f h = from_is 0 (length s.limits) f h ∙ omega arith
-
-  field_out : (f : ℕ) → FieldTold s g f → FirstOutside s g f
-  field_out f t =
-      let first = leading_have (field_keeps s g) (FieldKeeps s g) (field-keeps_out s g) (field-keeps_in s g) numbers f t.is_first in
-      let inside = t.is_field in
-      record {
-        same_texts = all_same t.pairs_hold;
-        all_hold = all_have (constraint_holds s g) (ConstraintHolds s g) (constraint_out s g) (constraint_in s g) s.constraints t.rules_hold;
-        is_field = t.is_field;
-        keep_before = λ k h. below_out (FieldKeeps s g) f (subst (All (FieldKeeps s g)) (take_up_to f (length s.limits) (omega arith)) first) k h;
-        does_not_keep = λ k. leading_has_not (field_keeps s g) (FieldKeeps s g) (field-keeps_out s g) (field-keeps_in s g) numbers f 0 t.is_first (omega (arith, counted)) (subst (FieldKeeps s g) (sym (numbered f t.is_field)) k);
-      }
-
-  field_in : (f : ℕ) → FirstOutside s g f → FieldTold s g f
-  field_in f o =
-      let inside = o.is_field in
-      record {
-        pairs_hold = none-differs o.same_texts;
-        rules_hold = none-lacks (constraint_holds s g) (ConstraintHolds s g) (constraint_out s g) (constraint_in s g) s.constraints o.all_hold;
-        is_first = leading-first (field_keeps s g) (FieldKeeps s g) (field-keeps_out s g) (field-keeps_in s g) numbers f 0 (omega (arith, counted))
-            (subst (All (FieldKeeps s g)) (sym (take_up_to f (length s.limits) (omega arith))) (below_in (FieldKeeps s g) f o.keep_before))
-            (λ k. o.does_not_keep (subst (FieldKeeps s g) (numbered f o.is_field) k));
-        is_field = o.is_field;
-      }
 
 -- the values tell the case
 pair_values : (j : Judgement) (p n side rest : ℕ) → judgement_values j ≡ 0 ∷ 1 ∷ p ∷ n ∷ side ∷ rest ∷ [] → j ≡ differs p n side rest
 pair_values solution p n side rest e = let z : ◌≡◌ {A = ℕ} 1 0 = cc in absurd (omega arith)
 pair_values (differs p' n' side' rest') p n side rest e = cc
 pair_values (breaks r) p n side rest e = let z : ◌≡◌ {A = ℕ} 2 1 = cc in absurd (omega arith)
-pair_values (outside f) p n side rest e = let z : ◌≡◌ {A = ℕ} 3 1 = cc in absurd (omega arith)
 
 rule_values : (j : Judgement) (r : ℕ) → judgement_values j ≡ 0 ∷ 2 ∷ r ∷ 0 ∷ 0 ∷ 0 ∷ [] → j ≡ breaks r
 rule_values solution r e = let z : ◌≡◌ {A = ℕ} 1 0 = cc in absurd (omega arith)
 rule_values (differs p n side rest) r e = let z : ◌≡◌ {A = ℕ} 1 2 = cc in absurd (omega arith)
 rule_values (breaks r') r e = cc
-rule_values (outside f) r e = let z : ◌≡◌ {A = ℕ} 3 2 = cc in absurd (omega arith)
-
-field-values : (j : Judgement) (f : ℕ) → judgement_values j ≡ 0 ∷ 3 ∷ f ∷ 0 ∷ 0 ∷ 0 ∷ [] → j ≡ outside f
-field-values solution f e = let z : ◌≡◌ {A = ℕ} 1 0 = cc in absurd (omega arith)
-field-values (differs p n side rest) f e = let z : ◌≡◌ {A = ℕ} 1 3 = cc in absurd (omega arith)
-field-values (breaks r) f e = let z : ◌≡◌ {A = ℕ} 2 3 = cc in absurd (omega arith)
-field-values (outside f') f e = cc
 
 module _ (b m : List ℕ) (y : Bytes b) (g : Substitution) (h : FillingOf b m g) where
   values : {vs : List ℕ} → checking b m ≡ finished vs → judgement_values (judged (sheet_of b) g) ≡ vs
@@ -197,13 +144,6 @@ module _ (b m : List ℕ) (y : Bytes b) (g : Substitution) (h : FillingOf b m g)
   or_else_for_the_first_rule_broken r = (
     (λ e. rule_out (sheet_of b) g r (rule_told (sheet_of b) g r (rule_values (judged (sheet_of b) g) r (values e)))),
     λ f. checking_judges b m y g h ∙ ap (λ j. finished (judgement_values j)) (told_rule (sheet_of b) g r (rule_in (sheet_of b) g r f)),
-  )
-
-  -- No. 7: "When pairs and rules hold, the answer of No. 5 names the first field that breaks its kind."
-  pub or_else_for_the_first-field-outside : (f : ℕ) → (checking b m ≡ finished (0 ∷ 3 ∷ f ∷ 0 ∷ 0 ∷ 0 ∷ [])) ↔ FirstOutside (sheet_of b) g f
-  or_else_for_the_first-field-outside f = (
-    (λ e. field_out (sheet_of b) g f (field_told (sheet_of b) g f (field-values (judged (sheet_of b) g) f (values e)))),
-    λ o. checking_judges b m y g h ∙ ap (λ j. finished (judgement_values j)) (told-field (sheet_of b) g f (field_in (sheet_of b) g f o)),
   )
 
   -- What is left over of a pair that differs is never nothing; and the numbers are those of a text, which has at most 24 letters.
@@ -225,12 +165,11 @@ module _ (b m : List ℕ) (y : Bytes b) (g : Substitution) (h : FillingOf b m g)
       let r = rest-right s u w (ltb-false (agreeing s u w) (length u) t) in
       (omega (arith, f.on_side, r.0), omega (arith, f.count, f.left_over, ap length r.1, length-drop (agreeing s u w) w, agree_right s u w, room 1)))
 
-  -- There is no other answer to a filling: a clash, a pair that differs, a rule broken, or (No. 7) a field outside its domain.
+  -- There is no other answer to a filling: a clash, a pair that differs, or a rule broken.
   pub data Told : Type 0 where
     a_clash : checking b m ≡ finished (1 ∷ []) → Solves (sheet_of b) g → Told
     a_pair : (p n side rest : ℕ) → checking b m ≡ finished (0 ∷ 1 ∷ p ∷ n ∷ side ∷ rest ∷ []) → FirstDiffers (sheet_of b) g p n side rest → Told
     a_rule : (r : ℕ) → checking b m ≡ finished (0 ∷ 2 ∷ r ∷ 0 ∷ 0 ∷ 0 ∷ []) → FirstBroken (sheet_of b) g r → Told
-    a_field : (f : ℕ) → checking b m ≡ finished (0 ∷ 3 ∷ f ∷ 0 ∷ 0 ∷ 0 ∷ []) → FirstOutside (sheet_of b) g f → Told
 
   pub no_other_answer : Told
   no_other_answer = by_case (judged (sheet_of b) g) (checking_judges b m y g h)
@@ -239,7 +178,6 @@ module _ (b m : List ℕ) (y : Bytes b) (g : Substitution) (h : FillingOf b m g)
       by_case solution e = a_clash e (passed_solves b m y g h e)
       by_case (differs p n side rest) e = a_pair p n side rest e ((for_the_first_pair_that_differs p n side rest).0 e)
       by_case (breaks r) e = a_rule r e ((or_else_for_the_first_rule_broken r).0 e)
-      by_case (outside f) e = a_field f e ((or_else_for_the_first-field-outside f).0 e)
 
 -- "Search and reply use the same comparison and answer as before." What both ask of a filling is whether it solves the sheet. A pair holds where nothing is left
 -- over, and that is where its two texts are equal, as before; a filling solves the sheet where no cause is told.
@@ -256,7 +194,6 @@ the_same_test s g = ((λ e. only (judged s g) (sym (solves-judged s g) ∙ e)), 
     only solution e = refl
     only (differs p n side rest) e = never e
     only (breaks r) e = never e
-    only (outside f) e = never e
 
 -- Checking too answers as before where it answers one number: clash or no clash, or the refusal, on all bytes.
 pub as_before : (b m : List ℕ) → decision (checking b m) ≡ of_sheet (read b) (λ s. of_filling (filling s m) (λ g. verdict (solves s g)))

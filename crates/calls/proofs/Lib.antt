@@ -24,6 +24,5 @@ pub mod BookOfTemplates
 pub mod ShopHours
 pub mod FileSize
 pub mod LeftOver
-pub mod KindsOfField
 pub mod Listings
 pub mod Printing

@@ -102,12 +102,12 @@ pub counting_counts : (b : List ℕ) → Accepted b → counting b ≡ finished 
 unfolding counting
 counting_counts b ok = sheet_accepted b _ ok
 
--- The first 172 bytes of a sheet decide both calls' answers.
-pub counting_prefix : (b : List ℕ) → counting b ≡ counting (take 172 b)
+-- The first 160 bytes of a sheet decide both calls' answers.
+pub counting_prefix : (b : List ℕ) → counting b ≡ counting (take 160 b)
 unfolding counting
 counting_prefix b = ap (λ r. of_sheet r (λ s. finished (clause_counts s))) (read_prefix b)
 
-pub writing_prefix : (b : List ℕ) (n room : ℕ) → writing b n room ≡ writing (take 172 b) n room
+pub writing_prefix : (b : List ℕ) (n room : ℕ) → writing b n room ≡ writing (take 160 b) n room
 unfolding writing
 writing_prefix b n room = ap (λ r. of_sheet r (λ s. writing_of s n room)) (read_prefix b)
 

@@ -26,9 +26,9 @@ module _ {R : Type 0} (fail : ℕ → R) where
   kept_goes [] go h = refl
   kept_goes (r ∷ rules) go h = rw h.0 (kept_goes rules go h.1)
 
-  pub first-fails : (rules : List Rule) (go : R) {n : ℕ} → First n rules → in_order_lem fail rules go ≡ fail n
+  pub first_fails : (rules : List Rule) (go : R) {n : ℕ} → First n rules → in_order_lem fail rules go ≡ fail n
   unfolding in_order_lem
-  first-fails rules go f =
+  first_fails rules go f =
       ap (λ z. in_order_lem fail z go) f.are
       ∙ order_append f.earlier (f.broken ∷ f.later) go
       ∙ kept_goes f.earlier _ f.earlier_kept
@@ -68,7 +68,7 @@ ordered_after rules own answer none first = first_or_none rules
     (λ h.
     let o = none h in
     record { values = o.values; is = o.is ∙ sym (kept_goes refused rules _ h) ∙ sym (order_append refused rules own (finished o.values)) })
-    (λ n f. record { values = []; is = first n f ∙ sym (first-fails refused rules _ f) ∙ sym (order_append refused rules own (finished [])) })
+    (λ n f. record { values = []; is = first n f ∙ sym (first_fails refused rules _ f) ∙ sym (order_append refused rules own (finished [])) })
 
 -- A walk that asks these rules in their order and then leaves these bytes.
 pub record Follows {A : Type 0} (w : Step A) (rules : List Rule) (left : List ℕ) : Type 0 where

@@ -11,7 +11,7 @@ use borrow.Author.Tests.{ltb-true, leb-true}
 use Rattle.model.specs.Lists.{Bytes}
 use Rattle.model.specs.Sheet.{Sheet, got, letter_of, equation, template, Accepted, sheet_of}
 use Rattle.model.specs.Word.{Substitution, Legal, letter_bytes, spell, EquationHolds, Solves, solves}
-use Rattle.model.specs.Mismatch.{Judgement, solution, differs, breaks, outside, is_solution, judged}
+use Rattle.model.specs.Mismatch.{Judgement, solution, differs, breaks, is_solution, judged}
 use Rattle.model.specs.Filling.{filling, encode_filling}
 use Rattle.calls.specs.Report.{labelled_line, pair_name, pair_line}
 use Rattle.calls.specs.Calls.{finished, judgement_values, verdict, checking, decision, spelling, spelling_of, spelled_text}
@@ -35,13 +35,11 @@ pub decides : (j : Judgement) → decision (finished (judgement_values j)) ≡ v
 decides solution = refl
 decides (differs p agree side rest) = refl
 decides (breaks r) = refl
-decides (outside f) = refl
 
 passes : (j : Judgement) → is_solution j ≡ true → judgement_values j ≡ 1 ∷ []
 passes solution e = refl
 passes (differs p agree side rest) e = never e
 passes (breaks r) e = never e
-passes (outside f) e = never e
 
 -- The bytes m are a filling of the accepted sheet b: those of a legal substitution g.
 pub record FillingOf (b m : List ℕ) (g : Substitution) : Type 0 where

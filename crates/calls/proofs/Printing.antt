@@ -1,4 +1,4 @@
--- What the clause program prints: for a refusal, for an accepted sheet, and that the first 172 bytes decide. Assumes nothing.
+-- What the clause program prints: for a refusal, for an accepted sheet, and that the first 160 bytes decide. Assumes nothing.
 use mathlib.Core.Path.{◌≡◌, ap}
 use mathlib.Core.List.{List}
 use Prim.Native.Nat.{ℕ}
@@ -18,6 +18,6 @@ pub clauses_accepted : (b : List ℕ) → Accepted b → clauses_printed b ≡ f
 unfolding clauses_printed
 clauses_accepted b ok = ap answer_text (sheet_accepted b (λ s. finished (file s)) ok)
 
-pub clauses_prefix : (b : List ℕ) → clauses_printed b ≡ clauses_printed (take 172 b)
+pub clauses_prefix : (b : List ℕ) → clauses_printed b ≡ clauses_printed (take 160 b)
 unfolding clauses_printed
 clauses_prefix b = ap (λ r. answer_text (of_sheet r (λ s. finished (file s)))) (read_prefix b)

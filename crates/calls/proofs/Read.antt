@@ -6,10 +6,10 @@ use Prim.Native.Nat.{ℕ, ◌<◌, ◌≤◌}
 use native.Mathlib.Omega.{arith}
 use lib.ListN.{length, drop, length-drop, drop_of_length-le}
 use Rattle.model.specs.Sheet as sheet
-use Rattle.model.specs.Sheet.{Sheet, Step, got, fault, ◌then◌, Counts, opening, walk, Reading, accepted, ended, read, counts_of, is_accepted, Accepted, sheet_of, rest}
+use Rattle.model.specs.Sheet.{Sheet, Step, got, fault, Counts, opening, walk, Reading, accepted, ended, read, counts_of, is_accepted, Accepted, sheet_of, rest}
 use Rattle.calls.specs.Calls.{refused, finished, four_counts, reading_of, reading}
 use Rattle.model.proofs.Rests.{found}
-use Rattle.model.proofs.Reading.{walk_counts, ended-accepted}
+use Rattle.model.proofs.Reading.{walk_counts}
 use Rattle.model.proofs.Known.{accepted_sheet}
 
 -- The answer, by the header and the walk.
@@ -52,8 +52,3 @@ reading-accepted b h = finished-accepted (read b) h
 pub reading_counts : (b : List ℕ) → Accepted b → reading b ≡ finished (four_counts (counts_of (sheet_of b)))
 unfolding reading
 reading_counts b h = rw (accepted_sheet b h)
-
--- an accepted sheet has the version and the counts that it opens with
-pub opened_counts : (b : List ℕ) → Accepted b → {c : Counts} {xs : List ℕ} → opening b ≡ got c xs → counts_of (sheet_of b) ≡ c
-unfolding read
-opened_counts b h {c} {xs} o = walk_counts c xs (ended-accepted (walk c xs) (sym (ap (λ w. ended (w then walk)) o) ∙ accepted_sheet b h))

@@ -121,7 +121,7 @@ module _ (b t : List ℕ) (room : ℕ) (ok : Accepted b) (w : Assignment) (satis
       ∙ satisfies_decoded b ok (assigned t) (same.0.1 satisfies)
       ∙ ap (λ g. finished (encode_filling g)) same.1
 
--- Of a sheet the first 172 bytes decide the answer, of a text the first 65,537: one byte more than are allowed.
+-- Of a sheet the first 160 bytes decide the answer, of a text the first 65,537: one byte more than are allowed.
 text_prefix : (s : Sheet) (t : List ℕ) (room : ℕ) → replying_of s t room ≡ replying_of s (take 65537 t) room
 unfolding replying_of
 text_prefix s t room = by_test (in_size t)
@@ -131,9 +131,9 @@ text_prefix s t room = by_test (in_size t)
     let l = length-take-le 65537 t (omega arith) in
     rw (e, over_size (take 65537 t) (omega arith)))
 
-pub replying_prefix : (b t : List ℕ) (room : ℕ) → replying b t room ≡ replying (take 172 b) (take 65537 t) room
+pub replying_prefix : (b t : List ℕ) (room : ℕ) → replying b t room ≡ replying (take 160 b) (take 65537 t) room
 unfolding replying
-replying_prefix b t room = ap (λ r. of_sheet r (λ s. replying_of s t room)) (read_prefix b) ∙ same_text (read (take 172 b))
+replying_prefix b t room = ap (λ r. of_sheet r (λ s. replying_of s t room)) (read_prefix b) ∙ same_text (read (take 160 b))
   where
     same_text : (r : Reading) → of_sheet r (λ s. replying_of s t room) ≡ of_sheet r (λ s. replying_of s (take 65537 t) room)
     same_text (sheet.accepted s) = text_prefix s t room
@@ -141,7 +141,7 @@ replying_prefix b t room = ap (λ r. of_sheet r (λ s. replying_of s t room)) (r
 
 -- so the text that the program prints is the same too
 pub printed_prefix : (b t : List ℕ) (room : ℕ)
-    → printed (sheet_of b) (replying b t room) ≡ printed (sheet_of (take 172 b)) (replying (take 172 b) (take 65537 t) room)
+    → printed (sheet_of b) (replying b t room) ≡ printed (sheet_of (take 160 b)) (replying (take 160 b) (take 65537 t) room)
 unfolding sheet_of
 printed_prefix b t room = ap₂ printed (ap sheet_in (read_prefix b)) (replying_prefix b t room)
 

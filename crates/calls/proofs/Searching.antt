@@ -48,8 +48,8 @@ unfolding searching searching_of
 searching-refused b room = not_zero (searching b room) (not_zero_sheet b _ (λ s.
     not_zero_require (leb (9 * length s.limits) room) 27 _ (omega arith) tt))
 
--- The first 172 bytes decide.
-pub searching_prefix : (b : List ℕ) (room : ℕ) → searching b room ≡ searching (take 172 b) room
+-- The first 160 bytes decide.
+pub searching_prefix : (b : List ℕ) (room : ℕ) → searching b room ≡ searching (take 160 b) room
 unfolding searching
 searching_prefix b room = ap (λ r. of_sheet r (λ s. searching_of s room)) (read_prefix b)
 
@@ -169,6 +169,6 @@ module _ (b : List ℕ) where
       ∙ ap (λ u. pick u (report s (first_solution s)) apart_line) (solvable_in s (first_solution s) first)
       ∙ ap (λ w. report s (substitution_in w)) (sym reads)
 
-pub search_prints_prefix : (b : List ℕ) → search_printed b ≡ search_printed (take 172 b)
+pub search_prints_prefix : (b : List ℕ) → search_printed b ≡ search_printed (take 160 b)
 unfolding search_printed
 search_prints_prefix b = ap (λ r. answer_text (of_sheet r (λ s. finished (search_text s)))) (read_prefix b)

@@ -34,7 +34,7 @@ use Rattle.schedule.proofs.Overlapping as minutes
 use Rattle.schedule.proofs.Offsets.{walk-fits, read_shut, read_strays}
 use Rattle.calls.proofs.Searching as searches
 use Rattle.calls.proofs.Comparing.{all-tested-numbers, comparing_hours_accepted, comparing_hours_prefix, Listed, finished_with_hours, sharing-kept}
-use Rattle.calls.proofs.Ordered.{kept_goes, first-fails, first_or_none}
+use Rattle.calls.proofs.Ordered.{kept_goes, first_fails, first_or_none}
 use Rattle.calls.proofs.Demands.{InOrder, Unchanged, in_order}
 use Rattle.calls.proofs.FirstRefusals.{decision_ordered}
 use Rattle.calls.proofs.HoursRefusals.{hours_follow, comparing_hours_ordered}
@@ -158,9 +158,9 @@ module _ (b h before after : List ℕ) (answer : Answer) (call : Decides (compar
       (subst (λ ps. Listed ps before after (number ∷ [])) (sharing-kept k s) c.2)
 
 -- Of those that clash none is added, and where all share a minute none is left out.
-pub listed-ones-clash : (k : Book) (s : Schedule) (P : Pair → Type 0) → All P (clashing k) → All P (sharing k s)
+pub listed_ones_clash : (k : Book) (s : Schedule) (P : Pair → Type 0) → All P (clashing k) → All P (sharing k s)
 unfolding sharing
-listed-ones-clash k s P a = keep_in P (λ p. share s p.first p.second) (clashing k) (weaken P _ (clashing k) (λ p q t. q) a)
+listed_ones_clash k s P a = keep_in P (λ p. share s p.first p.second) (clashing k) (weaken P _ (clashing k) (λ p q t. q) a)
 
 pub the_whole_week_lists_all : (k : Book) (s : Schedule) → ((i : ℕ) → i < length k.templates → intervals s i ≡ (0 to 10080) ∷ []) → sharing k s ≡ clashing k
 the_whole_week_lists_all k s all =
@@ -202,7 +202,7 @@ refused_44_or_45_exactly n h l number =
 -- An hours file is accepted exactly when it breaks none of the rules for 43 to 45.
 pub accepted-breaks-none : (n : ℕ) (h : List ℕ) → ((s : Schedule) × (read_hours n h ≡ schedule.accepted s)) ↔ Kept (hours_rules n h)
 accepted-breaks-none n h = (
-  (λ a. first_or_none (hours_rules n h) (λ k. k) (λ m broken. hours.not_accepted (sym (first-fails schedule.refused (hours_rules n h) (schedule.accepted (laid h 5 n)) broken) ∙ sym (hours_follow h n) ∙ a.1))),
+  (λ a. first_or_none (hours_rules n h) (λ k. k) (λ m broken. hours.not_accepted (sym (first_fails schedule.refused (hours_rules n h) (schedule.accepted (laid h 5 n)) broken) ∙ sym (hours_follow h n) ∙ a.1))),
   λ k. (laid h 5 n, hours_follow h n ∙ kept_goes schedule.refused (hours_rules n h) (schedule.accepted (laid h 5 n)) k),
 )
 

@@ -2,14 +2,14 @@
 -- bytes of every accepted sheet, whatever its number of letters L. Assumes nothing.
 use mathlib.Core.Path.{◌≡◌, refl, ap, ap₂, ◌∙◌}
 use mathlib.Core.List.{List, [], ◌∷◌}
-use Prim.Native.Nat.{ℕ, suc, ◌+◌, ◌-◌, ◌*◌, ◌<◌, ◌≤◌}
+use Prim.Native.Nat.{ℕ, suc, ◌+◌, ◌*◌, ◌<◌, ◌≤◌}
 use native.Mathlib.Omega.{arith}
 use lib.Dec.{ltb}
 use lib.ListN.{length}
 use lib.Signed.{lt_z}
 use borrow.Author.Tests.{lt-ltb, le-ltb, eq-eqb, ne_eqb}
 use Rattle.model.specs.Lists.{pick, keep, total, Bytes}
-use Rattle.model.specs.Sheet.{ones, Accepted, sheet_of, limit, domain, constraint}
+use Rattle.model.specs.Sheet.{Accepted, sheet_of, limit, constraint}
 use Rattle.model.specs.Cells.{Cell, letter, place}
 use Rattle.formula.specs.Clause.{cell, stays, ids, location_ids, sums, blank, fields, left_cells, right_cells}
 use Rattle.formula.specs.Kind.{Side, used, cell_side, side, Kind, same_letter_twice, different_letters, letter_then_field, field_then_letter, two_fields, used_up_before_letter, used_up_before_field, both_used_up, kind, kind_count, kind_at, locations_of}
@@ -115,7 +115,7 @@ module _ (b : List ℕ) (y : Bytes b) (ok : Accepted b) where
     both_used_up_lem eu ev = with_sides used used (used-side (left_cells (sheet_of b) p) i eu) (used-side (right_cells (sheet_of b) p) j ev) both_used_up refl
 
   -- "The counts themselves are those already promised.": what counting answers adds up from these. C is the sum of: for each field, at each of its places 1,
-  -- the pairs of two values, and 1 if another place follows, and (No. 7) the letters that its kind does not admit at each place, and its least length; for each pair 1 for S(p,0,0) and, for each kind, its locations times its number; for each rule 1
+  -- the pairs of two values, and 1 if another place follows; for each pair 1 for S(p,0,0) and, for each kind, its locations times its number; for each rule 1
   -- for T(r,0,0), its steps, which are sums times lengths, and its final sums above the limit.
   pub clauses_add_up :
       let s = sheet_of b in
@@ -123,8 +123,7 @@ module _ (b : List ℕ) (y : Bytes b) (ok : Accepted b) where
       let n = locations_of s in
       (counting b ≡ finished (length (variables s) ∷ length (ids s) ∷ file_size s ∷ []))
       × (length (ids s)
-      ≡ total (fields s) (λ f. total (limit s f) (λ c. 1 + (not_both_count l + pick (ltb (suc c) (limit s f)) 1 0))
-      + (limit s f * (l - ones l (domain s f).members) + (domain s f).least))
+      ≡ total (fields s) (λ f. total (limit s f) (λ c. 1 + (not_both_count l + pick (ltb (suc c) (limit s f)) 1 0)))
       + (total (length s.equations) (λ p. 1
       + (n p same_letter_twice * 1
       + (n p different_letters * 2
@@ -137,7 +136,7 @@ module _ (b : List ℕ) (y : Bytes b) (ok : Accepted b) where
       + total (length s.constraints) (λ r. 1
       + (total (fields s) (λ k. length (sums s (constraint s r) k) * suc (limit s k))
       + length (keep (lt_z (constraint s r).most) (sums s (constraint s r) (fields s)))))))
-  clauses_add_up = (counting_counts b ok, adds_up (sheet_of b) (accepted_in_range b y ok))
+  clauses_add_up = (counting_counts b ok, adds_up (sheet_of b) (well_formed (sheet_of b) (accepted_in_range b y ok)))
 
   -- the locations of all kinds together are (m + 1) × (n + 1)
   pub locations_add_up : (p : ℕ) →

@@ -4,7 +4,7 @@ use Rattle.model.specs.Lists.{pick, all}
 use Rattle.model.specs.Sheet as sheet
 use Rattle.model.specs.Sheet.{Sheet, Step, got, fault, Counts, counts_of, Reading, read, template}
 use Rattle.model.specs.Word.{Substitution, letter_bytes, spell, solves}
-use Rattle.model.specs.Mismatch.{Judgement, solution, differs, breaks, outside, judged}
+use Rattle.model.specs.Mismatch.{Judgement, solution, differs, breaks, judged}
 use Rattle.model.specs.Solvable.{solvable}
 use Rattle.model.specs.Order.{first_solution}
 use Rattle.model.specs.Filling.{filling, encode_filling}
@@ -50,12 +50,11 @@ unfoldable pub reading : List ℕ → Answer
 reading b = reading_of (read b)
 
 -- Checking a filling: "The answer is clash or no clash", 1 or 0. After 0 come five numbers more, the cause (document 02, No. 5): 1, "for the first pair that
--- differs, the pair's number, the count of agreeing letters, and the side and length of the rest"; "or else" 2 and "the number of the first rule broken"; and (No. 7) 3 and "the first field that breaks its kind".
+-- differs, the pair's number, the count of agreeing letters, and the side and length of the rest"; "or else" 2 and "the number of the first rule broken".
 abbrev pub judgement_values : Judgement → List ℕ
 judgement_values solution = 1 ∷ []
 judgement_values (differs p agree side rest) = 0 ∷ 1 ∷ p ∷ agree ∷ side ∷ rest ∷ []
 judgement_values (breaks r) = 0 ∷ 2 ∷ r ∷ 0 ∷ 0 ∷ 0 ∷ []
-judgement_values (outside f) = 0 ∷ 3 ∷ f ∷ 0 ∷ 0 ∷ 0 ∷ []
 
 unfoldable pub checking : List ℕ → List ℕ → Answer
 checking b m = of_sheet (read b) (λ s. of_filling (filling s m) (λ g. finished (judgement_values (judged s g))))

@@ -2,8 +2,8 @@
 -- rules, over lengths, are constraints here). Nothing is walked here: a byte is found by its offset. So "the first refusal number that
 -- applies, in the order given there" is said apart from the way in which a call finds it; `Demands.antt`, of a book `BookOfTemplates.antt`, with hours `ShopHours.antt`, and of the whole file `FileSize.antt` show that each call gives it.
 use Rattle.std.specs.Prelude.{◌≡◌, Bool, true, false, ◌&&◌, List, [], ◌∷◌, ◌++◌, map, ℕ, zero, suc, ◌+◌, ◌*◌, leb, ltb, eqb, length, take, drop}
-use Rattle.model.specs.Lists.{All, all, between, starts_with, pick, when}
-use Rattle.model.specs.Sheet.{Sheet, Symbol, symbol_of, width, sixteen, Role, letter_byte, limit_byte, least_byte, set_byte, count_byte, template_byte, coefficient_byte, most_byte, passes, refusal_of, Counts, mark, byte, counts_at, sheet_of}
+use Rattle.model.specs.Lists.{All, all, between, starts_with}
+use Rattle.model.specs.Sheet.{Sheet, Symbol, symbol_of, width, sixteen, Role, letter_byte, limit_byte, count_byte, template_byte, coefficient_byte, most_byte, passes, refusal_of, Counts, mark, byte, counts_at, sheet_of}
 use Rattle.model.specs.Word.{solves}
 use Rattle.model.specs.Filling.{filling, substitution_in}
 use Rattle.book.specs.Book as book
@@ -60,18 +60,6 @@ unfoldable pub past : ℕ → (ℕ → ℕ) → ℕ → ℕ
 past zero taken k = k
 past (suc n) taken k = past n taken (k + taken k)
 
--- Document 02, No. 7: "two bytes for each field: a least length, and a set of letters", of a field with that limit; one for each limit; and how many bytes they
--- take in a sheet of that version. "46 .., 47 ..; both are found in byte order, as rules under Reading"
-abbrev pub domain_rules : List ℕ → ℕ → ℕ → ℕ → List Rule
-domain_rules b l limit k = row_rules b (least_byte limit) 0 k 1 ++ row_rules b (set_byte l) 0 (k + 1) 1
-
-unfoldable pub domains_rules : List ℕ → ℕ → List ℕ → ℕ → List Rule
-domains_rules b l [] k = []
-domains_rules b l (limit ∷ limits) k = domain_rules b l limit k ++ domains_rules b l limits (k + 2)
-
-abbrev pub domain_bytes : Counts → ℕ
-domain_bytes c = pick (eqb c.version 2) (2 * c.field_count) 0
-
 -- An equation: "left symbol count, right symbol count .., left symbols, right symbols". "14 width (tested after a pair's symbols, left then
 -- right)".
 abbrev pub symbols_at : List ℕ → ℕ → ℕ → List Symbol
@@ -93,13 +81,9 @@ equation_bytes b k = 2 + (byte b k + byte b (suc k))
 abbrev pub constraint_rules : List ℕ → ℕ → ℕ → List Rule
 constraint_rules b v k = row_rules b coefficient_byte 0 k v ++ row_rules b most_byte 0 (k + v) 2
 
--- "The walk then goes through the bytes in order": letters, limits, domains ("after the limits"), equations, constraints; and where the equations and the
--- constraints start and end.
-abbrev pub equations_at : Counts → ℕ
-equations_at c = 9 + c.letter_count + c.field_count + domain_bytes c
-
+-- "The walk then goes through the bytes in order": letters, limits, equations, constraints; and where the constraints start and end.
 abbrev pub constraints_at : List ℕ → Counts → ℕ
-constraints_at b c = past c.equation_count (equation_bytes b) (equations_at c)
+constraints_at b c = past c.equation_count (equation_bytes b) (9 + c.letter_count + c.field_count)
 
 abbrev pub end_at : List ℕ → Counts → ℕ
 end_at b c = past c.constraint_count (λ k. c.field_count + 2) (constraints_at b c)
@@ -108,17 +92,15 @@ unfoldable pub walk_rules : List ℕ → Counts → List Rule
 walk_rules b c =
     row_rules b letter_byte 0 9 c.letter_count
     ++ (row_rules b limit_byte 0 (9 + c.letter_count) c.field_count
-    ++ (when (eqb c.version 2) (domains_rules b c.letter_count (take c.field_count (drop (9 + c.letter_count) b)) (9 + c.letter_count + c.field_count))
-    ++ (several_rules c.equation_count (equation_rules b c.letter_count (take c.field_count (drop (9 + c.letter_count) b))) (equation_bytes b) (equations_at c)
-    ++ several_rules c.constraint_count (constraint_rules b c.field_count) (λ k. c.field_count + 2) (constraints_at b c))))
+    ++ (several_rules c.equation_count (equation_rules b c.letter_count (take c.field_count (drop (9 + c.letter_count) b))) (equation_bytes b) (9 + c.letter_count + c.field_count)
+    ++ several_rules c.constraint_count (constraint_rules b c.field_count) (λ k. c.field_count + 2) (constraints_at b c)))
 
--- "Reading: 1 under 9 bytes; 2 mark; 3 version; 4 L; 5 V; 6 E; 7 R. The walk then .. . 9 comes last: bytes left over." Document 02, No. 7: "3 is given for
--- versions other than 1 and 2."
+-- "Reading: 1 under 9 bytes; 2 mark; 3 version; 4 L; 5 V; 6 E; 7 R. The walk then .. . 9 comes last: bytes left over."
 abbrev pub opening_rules : List ℕ → List Rule
 opening_rules b =
     (1 asks leb 9 (length b))
     ∷ (2 asks starts_with mark b)
-    ∷ (3 asks between 1 2 (sixteen (byte b 3) (byte b 4)))
+    ∷ (3 asks eqb (sixteen (byte b 3) (byte b 4)) 1)
     ∷ (4 asks between 1 8 (byte b 5))
     ∷ (5 asks between 0 6 (byte b 6))
     ∷ (6 asks between 1 4 (byte b 7))

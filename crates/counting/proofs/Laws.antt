@@ -6,7 +6,7 @@ use native.Mathlib.Omega.{arith}
 use lib.ListN.{length, get_or}
 use borrow.Author.Tests.{lt-ltb, le-ltb}
 use Rattle.model.specs.Lists.{total}
-use Rattle.model.specs.Sheet.{ones, Sheet, limit, domain, constraint}
+use Rattle.model.specs.Sheet.{Sheet, limit, constraint}
 use Rattle.model.specs.Range.{InRange}
 use Rattle.model.specs.Cells.{Cell, letter, place}
 use Rattle.formula.specs.Clause.{blank, fields, cell, left_cells, right_cells, spread, ids}
@@ -25,13 +25,11 @@ use Rattle.model.proofs.Templates.{well_formed}
 -- the clauses of a field with no place, and with some
 module _ (s : Sheet) (f : ℕ) (n : ℕ) (is : n ≡ limit s f) where
   pub field-none : n ≡ 0 → field_count s f ≡ 0
-  field-none e = ap (λ k. total k (place_count (blank s) k (domain s f))) (sym is ∙ e) ∙ total-none (place_count (blank s) 0 (domain s f))
+  field-none e = ap (λ k. total k (place_count (blank s) k)) (sym is ∙ e) ∙ total-none (place_count (blank s) 0)
 
-  pub field-some : (n ≡ 0 → ⊥) → (domain s f).least ≤ limit s f → (l p others : ℕ) → l ≡ blank s → p ≡ not_both_count l → others ≡ blank s - ones (blank s) (domain s f).members
-      → n * (2 + p + others) + (domain s f).least ≡ field_count s f + 1
-  field-some z low l p others el ep eo =
-      let size : 2 + p + others ≡ 2 + not_both_count (blank s) + (blank s - ones (blank s) (domain s f).members) = ap₂ (λ x y. 2 + x + y) (ep ∙ ap not_both_count el) eo in
-      ap₂ (λ x y. x * y + (domain s f).least) is size ∙ sym (field-total (blank s) (limit s f) (domain s f) low (omega arith))
+  pub field-some : (n ≡ 0 → ⊥) → (l p : ℕ) → l ≡ blank s → p ≡ not_both_count l → n * (2 + p) ≡ field_count s f + 1
+  field-some z l p el ep =
+      ap₂ (λ x y. x * (2 + y)) is (ep ∙ ap not_both_count el) ∙ sym (field-total (blank s) (limit s f) (omega arith))
 
 -- The right side of an equation by its bytes: the first are cells, and past them the template is used up.
 not_past : (u : Cell) → cell_side u ≡ used → ⊥

@@ -1,11 +1,10 @@
 // How many clauses an accepted sheet has, part by part.
 ghost use Rattle.std.specs.Prelude.{◌≡◌, ◌<◌, ◌≤◌, length};
 ghost use Rattle.model.specs.Lists.{total};
-ghost use Rattle.model.specs.Sheet.{limit, domain, sheet_of};
+ghost use Rattle.model.specs.Sheet.{sheet_of};
 ghost use Rattle.model.specs.Range.{Admitted};
-ghost use Rattle.formula.specs.Count.{not_both_count, place_count, field_count, equation_count, step_count, constraint_count, parts, part_counts};
+ghost use Rattle.formula.specs.Count.{not_both_count, field_count, equation_count, step_count, constraint_count, parts, part_counts};
 ghost use Rattle.formula.specs.Clause.{ids, blank, right_cells};
-ghost use Rattle.formula.specs.Numbering.{PlaceIn};
 ghost use Rattle.formula.specs.Count as model;
 ghost use Rattle.shape.specs.Bytes.{side_bytes};
 ghost use Rattle.shape.specs.Name.{section_of};
@@ -28,31 +27,16 @@ pub fn not_both_count(l: usize) -> usize
     sum
 }
 
-// The clauses of place c of field f: that it has a value, not two, that after a blank comes a blank, and what the field's domain excludes there.
-pub fn place_count(sheet: &[u8], f: usize, c: usize) -> usize
-    requires { Admitted sheet.now × PlaceIn (sheet_of sheet.now) f c }
-    ensures { (result ≡ place_count (blank (sheet_of sheet.now)) (limit (sheet_of sheet.now) f) (domain (sheet_of sheet.now) f) c) × (result ≤ 83) }
-{
-    let values = 1 + not_both_count(shape::letters(sheet));
-    let excluded = domains::excluded_count(sheet, f, c);
-    if c + 1 < shape::limit(sheet, f) {
-        return values + 1 + excluded;
-    }
-    values + excluded
-}
-
-// The clauses of field f: as many for each place, but one fewer for the last, and one more at as many places as its least length says.
+// The clauses of field f: as many for each place, but one fewer for the last.
 pub fn field_count(sheet: &[u8], f: usize) -> usize
     requires { Admitted sheet.now × (f < length (sheet_of sheet.now).limits) }
-    ensures { (result ≡ field_count (sheet_of sheet.now) f) × (result ≤ 664) }
+    ensures { (result ≡ field_count (sheet_of sheet.now) f) × (result ≤ 592) }
 {
     let limit = shape::limit(sheet, f);
     if limit == 0 {
         return 0;
     }
-    let others = domains::not_admitted(sheet, f);
-    let least = domains::least(sheet, f);
-    limit * (2 + not_both_count(shape::letters(sheet)) + others) + least - 1
+    limit * (2 + not_both_count(shape::letters(sheet))) - 1
 }
 
 // The census of the right side of equation p, by which its rows are counted.

@@ -178,7 +178,7 @@ module _ (s : Sheet) (m : List ℕ) (r : InRange s) {g : Substitution} {xs : Lis
   loaded-all-whole : All Whole (loaded (length s.limits) m)
   loaded-all-whole = loaded-whole (length s.limits) m (λ f h. subst Whole (sym (field_is f h)) (text-whole (text g f) (text-short s m r e f h)))
 
--- What is loaded of an admitted filling holds it.
+-- What is loaded of an IsAdmitted filling holds it.
 module _ (b m : List ℕ) (n : ℕ) (y : Bytes b) (ok : Accepted b) (passes : rest (filling (sheet_of b) m) ≡ got tt []) (counted : n ≡ length (sheet_of b).limits) where
   pub can_load : (n ≤ 6) × (9 * n ≤ length m)
   can_load =

@@ -19,6 +19,6 @@ left b Admitted = got tt (drop 9 b)
 left b (Refused f) = fault (number_of f)
 
 -- nothing is left after a whole filling
-abbrev pub admitted : Admission → Step Unit
-admitted Admitted = got tt []
-admitted (Refused f) = fault (number_of f)
+abbrev pub IsAdmitted : Admission → Step Unit
+IsAdmitted Admitted = got tt []
+IsAdmitted (Refused f) = fault (number_of f)

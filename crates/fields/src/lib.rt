@@ -4,7 +4,7 @@ ghost use Rattle.model.specs.Lists.{All};
 ghost use Rattle.model.specs.Sheet.{got, rest, Accepted, sheet_of};
 ghost use Rattle.model.specs.Filling.{a_text, filling, encode_filling};
 ghost use Rattle.fields.specs.Memory.{texts_of, Whole, meaning, Held, field_bytes, field_at, loaded};
-ghost use Rattle.fields.specs.Answer.{number_of, left, admitted};
+ghost use Rattle.fields.specs.Answer.{number_of, left, IsAdmitted};
 
 use scan::wide;
 
@@ -47,7 +47,7 @@ pub enum Fault {
     Past,
 }
 
-// Whether bytes are admitted, those of a field or of a filling.
+// Whether bytes are IsAdmitted, those of a field or of a filling.
 #[derive(Drop)]
 pub enum Admission {
     Admitted,
@@ -157,7 +157,7 @@ fn check_field(bytes: &[u8], limit: u8, letters: u8) -> Admission
 // the substitution.
 pub fn admit(sheet: &[u8], bytes: &[u8]) -> Admission
     requires { Accepted sheet.now }
-    ensures { admitted result ≡ rest (filling (sheet_of sheet.now) bytes.now) }
+    ensures { IsAdmitted result ≡ rest (filling (sheet_of sheet.now) bytes.now) }
 {
     let counts = parts::four_counts(sheet);
     let fields = wide(counts.fields);
@@ -180,7 +180,7 @@ pub fn admit(sheet: &[u8], bytes: &[u8]) -> Admission
     Admission::Admitted
 }
 
-// The substitution of a filling that was admitted.
+// The substitution of a filling that was IsAdmitted.
 pub fn load(sheet: &[u8], bytes: &[u8]) -> Substitution
     requires { Accepted sheet.now × (rest (filling (sheet_of sheet.now) bytes.now) ≡ got tt []) }
     ensures { Held sheet.now result × (filling (sheet_of sheet.now) bytes.now ≡ got (meaning sheet.now result) []) }

@@ -1,24 +1,29 @@
--- The clauses of a constraint as the code has them. Assumes nothing.
-use mathlib.Core.Path.{◌≡◌, sym, ap, ap₂, ◌∙◌}
+-- The clauses of a place and of a constraint as the code has them. Assumes nothing.
+use mathlib.Core.Path.{◌≡◌, refl, sym, ap, ap₂, ◌∙◌}
 use Prim.Native.Nat.{ℕ, suc, ◌+◌, ◌-◌, ◌*◌, ◌/◌, ◌%◌, ◌<◌, ◌≤◌}
-use native.Mathlib.Nat.{div-add-mod', mod-lt, div-lt_iff_lt-mul}
+use native.Mathlib.Nat.{suc-mul, div-add-mod', mod-lt, div-lt_iff_lt-mul}
 use native.Mathlib.Omega.{arith}
+use lib.Dec.{ltb, eqb}
 use lib.IntN.{ℤ, pos, ◌+ℤ◌}
 use lib.ListN.{length}
+use borrow.Author.Tests.{ltb-true, ltb-false, eqb-true, eqb-false}
 use mir.Syntax.{w16}
 use mir.Val.{to_z, of_z}
 use Rattle.model.specs.Lists.{total}
 use Rattle.model.specs.Sheet.{Sheet, limit, constraint}
 use Rattle.model.specs.Range.{InRange}
-use Rattle.formula.specs.Clause.{Zero, Add, Bound, least, spread, id_at, fields}
-use Rattle.formula.specs.Count.{step_count, within, constraint_count, constraint_start}
-use Rattle.formula.proofs.Finding.{zero_at, add_at, bound_at}
+use Rattle.formula.specs.Clause.{SomeValue, NotBoth, BlankTail, Zero, Add, Bound, least, spread, id_at, blank, fields}
+use Rattle.formula.specs.Count.{not_both_count, place_start, field_count, step_count, within, constraint_count, constraint_start}
+use Rattle.model.proofs.Lists.{by_test}
+use Rattle.model.proofs.Keeping.{total-more}
+use Rattle.formula.proofs.Totals.{place-before, field-total}
+use Rattle.formula.proofs.Finding.{some_at, not_both_at, tail_at, zero_at, add_at, bound_at}
 use Rattle.literals.specs.declared.ClauseId.{ClauseId}
 use Rattle.finding.specs.Sought.{Sought}
 use Rattle.finding.specs.declared.Found.{Found}
 use Rattle.finding.specs.declared.Found.TheVariants.{Clause, Past}
 use Rattle.numbering.proofs.Laws.{number-few, read_back}
-use Rattle.counting.proofs.Laws.{constraint-known}
+use Rattle.counting.proofs.Laws.{field-none, constraint-known}
 use Rattle.model.proofs.Templates.{well_formed}
 use Rattle.locating.proofs.Laws.{same_number}
 
@@ -29,6 +34,67 @@ module _ (n d : ℕ) (some : 0 < d) where
 
   quotient_below : (m : ℕ) → n < m * d → n / d < m
   quotient_below m h = (div-lt_iff_lt-mul some).1 h
+
+-- Number n of the clauses of field f: it belongs to place n / size, with size the clauses of a place that is not the last.
+module _ (s : Sheet) (ok : InRange s) (f : ℕ) (hf : f < fields s) (n : ℕ) (hn : n < field_count s f) (l p : ℕ) (el : l ≡ blank s) (ep : p ≡ not_both_count l) where
+  size_is : 2 + p ≡ 2 + not_both_count (blank s)
+  size_is = ap (λ k. 2 + k) (ep ∙ ap not_both_count el)
+
+  some-place : 0 < limit s f
+  some-place = by_test (eqb (limit s f) 0)
+      (λ e. let empty = field-none s f 0 (sym (eqb-true (limit s f) 0 e)) refl in absurd (omega arith))
+      (λ e. let k = eqb-false (limit s f) 0 e in omega arith)
+
+  in_all : n + 1 < limit s f * (2 + p)
+  in_all = let e = field-total (blank s) (limit s f) some-place in rw size_is (omega arith)
+
+  split : n / (2 + p) * (2 + p) + n % (2 + p) ≡ n
+  split = div-add-mod' n (2 + p)
+
+  place_in : n / (2 + p) < limit s f
+  place_in = quotient_below n (2 + p) (omega arith) (limit s f) (omega (arith, in_all))
+
+  place_is : place_start s f (n / (2 + p)) + n % (2 + p) ≡ total f (field_count s) + n
+  place_is =
+      let e = place-before (blank s) (limit s f) (n / (2 + p)) place_in in
+      let q = ap (λ k. n / (2 + p) * k) size_is in
+      omega (arith, split)
+
+  pub some-found : n % (2 + p) ≡ 0 → SomeValue f (n / (2 + p)) ≡ id_at s (total f (field_count s) + n)
+  some-found z =
+      same_number s _ (place_start s f (n / (2 + p))) (total f (field_count s) + n)
+      (sym (some_at s (well_formed s ok) f (n / (2 + p)) hf place_in)) (omega (arith, place_is))
+
+  module _ (more : n % (2 + p) ≡ 0 → ⊥) (a k : ℕ) (left : total a (λ a. l - a) + k ≡ n % (2 + p) - 1) where
+    not_boths_are : total a (λ a. l - a) ≡ total a (λ a. blank s - a)
+    not_boths_are = ap (λ m. total a (λ a. m - a)) el
+
+    pub not_both_found : a ≤ l → k < l - a → NotBoth f (n / (2 + p)) a (a + 1 + k) ≡ id_at s (total f (field_count s) + n)
+    not_both_found ha hk =
+        let e : a + 1 + k ≡ suc a + k = omega arith in
+        same_number s _ (place_start s f (n / (2 + p)) + (1 + (total a (λ a. blank s - a) + k))) (total f (field_count s) + n)
+        (ap (NotBoth f (n / (2 + p)) a) e ∙ sym (not_both_at s (well_formed s ok) f (n / (2 + p)) hf place_in a k (omega arith) (omega arith)))
+        (omega (arith, place_is, not_boths_are))
+
+    pub tail_found : a ≡ l → BlankTail f (n / (2 + p)) ≡ id_at s (total f (field_count s) + n)
+    tail_found ea =
+        let c : ℕ = n / (2 + p) in
+        let t = ap (λ m. total m (λ a. l - a)) ea in
+        let all = total-more l (λ a. l - a) in
+        let m : l + 1 ≡ suc l = omega arith in
+        let pairs : not_both_count l ≡ total l (λ a. l - a) = ap (λ j. total j (λ a. l - a)) (sym m) ∙ all ∙ (omega arith) in
+        let low = rest_below n (2 + p) (omega arith) in
+        let last : n % (2 + p) ≡ 1 + p = omega arith in
+        let inside : suc c < limit s f = by_test (ltb (suc c) (limit s f))
+        (λ e. ltb-true (suc c) (limit s f) e)
+        (λ e.
+        let g = ltb-false (suc c) (limit s f) e in
+        let is : limit s f ≡ suc c = omega (arith, place_in) in
+        let w = ap (λ k. k * (2 + p)) is in
+        let q = suc-mul c (2 + p) in
+        absurd (omega (arith, in_all, split))) in
+        same_number s _ (place_start s f c + (1 + not_both_count (blank s))) (total f (field_count s) + n)
+        (sym (tail_at s (well_formed s ok) f c hf place_in inside)) (omega (arith, place_is, size_is))
 
 -- The clauses of constraint r.
 module _ (s : Sheet) (ok : InRange s) (r : ℕ) (hr : r < length s.constraints) (n : ℕ) where

@@ -4,13 +4,36 @@ ghost use Rattle.model.specs.Lists.{total};
 ghost use Rattle.model.specs.Sheet.{sheet_of, constraint};
 ghost use Rattle.model.specs.Range.{Admitted};
 ghost use Rattle.formula.specs.Clause.{ids, id_at, least, spread};
-ghost use Rattle.formula.specs.Count.{constraint_count, k_clauses, s_clauses, constraint_start, parts, part_counts, section_start};
+ghost use Rattle.formula.specs.Count.{field_count, constraint_count, k_clauses, s_clauses, constraint_start, parts, part_counts, section_start};
 ghost use Rattle.shape.specs.Name.{section_of};
 ghost use Rattle.literals.specs.Name.{name_of};
 ghost use Rattle.finding.specs.Sought.{Sought};
 
 use literals::ClauseId;
 use shape::Section;
+
+// Clause n of those of field f.
+fn in_field(sheet: &[u8], f: usize, n: usize) -> ClauseId
+    requires { Admitted sheet.now × (f < length (sheet_of sheet.now).limits) × (n < field_count (sheet_of sheet.now) f) }
+    ensures { name_of result ≡ id_at (sheet_of sheet.now) (total f (field_count (sheet_of sheet.now)) + n) }
+{
+    let letters = shape::letters(sheet);
+    let size = 2 + counting::not_both_count(letters);
+    let c = n / size;
+    if n % size == 0 {
+        return ClauseId::SomeValue(f, c);
+    }
+    let mut rest = n % size - 1;
+    let mut a: usize = 0;
+    while a < letters {
+        if rest < letters - a {
+            return ClauseId::NotBoth(f, c, a, a + 1 + rest);
+        }
+        rest = rest - (letters - a);
+        a += 1;
+    }
+    ClauseId::BlankTail(f, c)
+}
 
 // The n-th sum of the first k fields, from the least on.
 fn sum_at(sheet: &[u8], r: usize, k: usize, n: usize) -> i16
@@ -52,7 +75,7 @@ fn in_part(sheet: &[u8], section: Section, i: usize, n: usize) -> ClauseId
     ensures { name_of result ≡ id_at (sheet_of sheet.now) (section_start (sheet_of sheet.now) (section_of section) + (total i (part_counts (sheet_of sheet.now) (section_of section)) + n)) }
 {
     match section {
-        Section::Fields => placing::in_field(sheet, i, n),
+        Section::Fields => in_field(sheet, i, n),
         Section::Equations => locating::in_equation(sheet, i, n),
         Section::Constraints => in_constraint(sheet, i, n),
     }

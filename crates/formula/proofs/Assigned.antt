@@ -7,10 +7,10 @@ use Prim.Native.Nat.{ℕ}
 use lib.Dec.{eqb}
 use lib.ListN.{length}
 use Rattle.model.specs.Lists.{each, from, up_to, any, all, keep, total}
-use Rattle.model.specs.Sheet.{letter, field, has_bit, unrestricted, Sheet, limit}
+use Rattle.model.specs.Sheet.{letter, field, Sheet, limit}
 use Rattle.model.specs.Word.{Substitution}
 use Rattle.model.specs.Cells.{cells}
-use Rattle.formula.specs.Clause.{terms, left_out, literals, least, spread, sums, excluded, excluded_ids, place_ids, location_ids, equation_ids, constraint_ids, listed, ids, fields}
+use Rattle.formula.specs.Clause.{terms, left_out, literals, least, spread, sums, place_ids, location_ids, equation_ids, constraint_ids, listed, ids, fields}
 use Rattle.formula.specs.Numbering.{k_variables, s_variables, t_variables, variables, number, clause}
 use Rattle.formula.specs.Dimacs.{digits, decimal, clause_line, line, numbers_from}
 use Rattle.formula.specs.Assignment.{Assignment, satisfied, true_values, up_to_blank, spelled}
@@ -41,10 +41,8 @@ found =
     -- a field against nothing, and one that no template uses: it is blank or the letter
     ∷ record {
       sheet = record {
-        version = 1;
         letters = 65 ∷ [];
         limits = 1 ∷ 1 ∷ [];
-        domains = unrestricted 1 ∷ unrestricted 1 ∷ [];
         equations = record { left = field 0 ∷ []; right = [] } ∷ [];
         constraints = [];
       };
@@ -54,10 +52,8 @@ found =
     -- a field that a constraint asks to be one letter long or more: a sum that is not reached may be true
     ∷ record {
       sheet = record {
-        version = 1;
         letters = 65 ∷ [];
         limits = 2 ∷ [];
-        domains = unrestricted 1 ∷ [];
         equations = record { left = []; right = [] } ∷ [];
         constraints = record { coefficients = minus 1 ∷ []; most = minus 1 } ∷ [];
       };
@@ -68,45 +64,18 @@ found =
     -- a letter against nothing
     ∷ record {
       sheet = record {
-        version = 1;
         letters = 65 ∷ [];
         limits = 1 ∷ [];
-        domains = unrestricted 1 ∷ [];
         equations = record { left = field 0 ∷ letter 0 ∷ []; right = [] } ∷ [];
         constraints = [];
       };
       assignments = [];
       substitutions = [];
     }
-    -- version 2: a field of B alone that is not empty; one that no letter may stand in, which is empty, and one that must not be
-    ∷ record {
-      sheet = record {
-        version = 2;
-        letters = 65 ∷ 66 ∷ [];
-        limits = 2 ∷ [];
-        domains = record { least = 1; members = 2 } ∷ [];
-        equations = record { left = []; right = [] } ∷ [];
-        constraints = [];
-      };
-      assignments = (2 ∷ 6 ∷ 7 ∷ []) ∷ (2 ∷ 5 ∷ 7 ∷ []) ∷ [];
-      substitutions = ((1 ∷ []) ∷ []) ∷ ((1 ∷ 1 ∷ []) ∷ []) ∷ [];
-    }
-    ∷ record {
-      sheet = record {
-        version = 2;
-        letters = 65 ∷ [];
-        limits = 1 ∷ 1 ∷ [];
-        domains = record { least = 0; members = 0 } ∷ record { least = 1; members = 1 } ∷ [];
-        equations = record { left = []; right = [] } ∷ [];
-        constraints = [];
-      };
-      assignments = (2 ∷ 3 ∷ 5 ∷ []) ∷ [];
-      substitutions = ([] ∷ (0 ∷ []) ∷ []) ∷ [];
-    }
     ∷ []
 
 pub all_satisfying : map (λ (c : Found). satisfying c.sheet) found ≡ map (λ (c : Found). c.assignments) found
-unfolding all each from any keep total cells terms left_out literals least spread sums has_bit excluded excluded_ids place_ids location_ids equation_ids constraint_ids listed ids number clause k_variables s_variables t_variables variables digits decimal clause_line line numbers_from satisfied choices
+unfolding all each from any keep total cells terms left_out literals least spread sums place_ids location_ids equation_ids constraint_ids listed ids number clause k_variables s_variables t_variables variables digits decimal clause_line line numbers_from satisfied choices
 all_satisfying = refl
 
 -- each place has just one value, in the field that no template uses too
@@ -122,6 +91,6 @@ unfolding from any keep total number true_values up_to_blank spelled
 all-spelled = refl
 
 -- of an assignment with a letter after a blank, which satisfies nothing: the text ends at the blank
-pub blank-ends : spelled (record { version = 1; letters = 65 ∷ []; limits = 3 ∷ []; domains = unrestricted 1 ∷ []; equations = []; constraints = [] }) (trues (1 ∷ 4 ∷ 5 ∷ [])) ≡ (0 ∷ []) ∷ []
+pub blank-ends : spelled (record { letters = 65 ∷ []; limits = 3 ∷ []; equations = []; constraints = [] }) (trues (1 ∷ 4 ∷ 5 ∷ [])) ≡ (0 ∷ []) ∷ []
 unfolding from any keep total number true_values up_to_blank spelled
 blank-ends = refl

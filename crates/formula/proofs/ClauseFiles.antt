@@ -6,9 +6,9 @@ use Prim.Native.Nat.{ℕ}
 use lib.IntN.{ℤ, pos, neg_ℤ}
 use lib.ListN.{length}
 use Rattle.model.specs.Lists.{each, from, up_to, any, keep, total}
-use Rattle.model.specs.Sheet.{Symbol, letter, field, has_bit, ones, unrestricted, Sheet}
+use Rattle.model.specs.Sheet.{Symbol, letter, field, Sheet}
 use Rattle.model.specs.Cells.{cells}
-use Rattle.formula.specs.Clause.{terms, left_out, literals, least, spread, sums, excluded, excluded_ids, place_ids, location_ids, equation_ids, constraint_ids, listed, ids}
+use Rattle.formula.specs.Clause.{terms, left_out, literals, least, spread, sums, place_ids, location_ids, equation_ids, constraint_ids, listed, ids}
 use Rattle.formula.specs.Kind.{same_letter_twice, different_letters, letter_then_field, field_then_letter, two_fields, used_up_before_letter, used_up_before_field, both_used_up, locations_of}
 use Rattle.formula.specs.Count.{added_up}
 use Rattle.formula.specs.Numbering.{k_variables, s_variables, t_variables, variables, number, clause}
@@ -29,7 +29,7 @@ pub record ClauseFile : Type 0 where
 
 -- document 01's sheet P: "one field X of limit 1 against A"
 abbrev pub P : Sheet
-P = record { version = 1; letters = 65 ∷ []; limits = 1 ∷ []; domains = unrestricted 1 ∷ []; equations = record { left = field 0 ∷ []; right = letter 0 ∷ [] } ∷ []; constraints = [] }
+P = record { letters = 65 ∷ []; limits = 1 ∷ []; equations = record { left = field 0 ∷ []; right = letter 0 ∷ [] } ∷ []; constraints = [] }
 
 abbrev clause_files : List ClauseFile
 clause_files =
@@ -47,10 +47,8 @@ clause_files =
     -- field against field, of limits 2 and 1; coefficients of both signs, and a limit that cuts
     ∷ record {
       sheet = record {
-        version = 1;
         letters = 65 ∷ 66 ∷ [];
         limits = 2 ∷ 1 ∷ [];
-        domains = unrestricted 2 ∷ unrestricted 2 ∷ [];
         equations = record { left = field 0 ∷ []; right = field 1 ∷ [] } ∷ [];
         constraints = record { coefficients = minus 2 ∷ pos 1 ∷ []; most = minus 1 } ∷ [];
       };
@@ -79,10 +77,8 @@ clause_files =
     -- a field on both sides, so that a location has one cell on both sides
     ∷ record {
       sheet = record {
-        version = 1;
         letters = 65 ∷ 66 ∷ [];
         limits = 1 ∷ [];
-        domains = unrestricted 2 ∷ [];
         equations = record { left = letter 0 ∷ field 0 ∷ []; right = field 0 ∷ letter 0 ∷ [] } ∷ [];
         constraints = [];
       };
@@ -102,10 +98,8 @@ clause_files =
     -- a field of limit 0; two equations, one of them with an empty side and one with letters that are the same and that differ; two constraints
     ∷ record {
       sheet = record {
-        version = 1;
         letters = 65 ∷ 66 ∷ 67 ∷ [];
         limits = 0 ∷ 2 ∷ [];
-        domains = unrestricted 3 ∷ unrestricted 3 ∷ [];
         equations = record { left = []; right = field 1 ∷ [] } ∷ record { left = letter 0 ∷ field 0 ∷ letter 1 ∷ []; right = letter 0 ∷ letter 2 ∷ letter 1 ∷ [] } ∷ [];
         constraints = record { coefficients = pos 3 ∷ minus 4 ∷ []; most = pos 2 } ∷ record { coefficients = pos 0 ∷ pos 0 ∷ []; most = minus 1 } ∷ [];
       };
@@ -130,10 +124,8 @@ clause_files =
     -- no fields, and a constraint whose limit is below 0
     ∷ record {
       sheet = record {
-        version = 1;
         letters = 65 ∷ [];
         limits = [];
-        domains = [];
         equations = record { left = letter 0 ∷ []; right = letter 0 ∷ [] } ∷ [];
         constraints = record { coefficients = []; most = minus 1 } ∷ [];
       };
@@ -147,10 +139,8 @@ clause_files =
     -- both templates empty, and a field that none uses
     ∷ record {
       sheet = record {
-        version = 1;
         letters = 65 ∷ 66 ∷ [];
         limits = 1 ∷ [];
-        domains = unrestricted 2 ∷ [];
         equations = record { left = []; right = [] } ∷ [];
         constraints = record { coefficients = minus 4 ∷ []; most = pos 3 } ∷ [];
       };
@@ -165,10 +155,8 @@ clause_files =
     -- a field twice in one template; limits that cut nothing
     ∷ record {
       sheet = record {
-        version = 1;
         letters = 65 ∷ 66 ∷ [];
         limits = 2 ∷ [];
-        domains = unrestricted 2 ∷ [];
         equations = record { left = field 0 ∷ field 0 ∷ []; right = letter 0 ∷ [] } ∷ [];
         constraints = record { coefficients = minus 1 ∷ []; most = pos 0 } ∷ record { coefficients = minus 3 ∷ []; most = pos 3 } ∷ [];
       };
@@ -193,10 +181,8 @@ clause_files =
     -- letters against letters
     ∷ record {
       sheet = record {
-        version = 1;
         letters = 65 ∷ 66 ∷ 67 ∷ [];
         limits = [];
-        domains = [];
         equations = record { left = letter 1 ∷ []; right = letter 1 ∷ letter 1 ∷ letter 2 ∷ [] } ∷ [];
         constraints = record { coefficients = []; most = pos 0 } ∷ [];
       };
@@ -211,10 +197,8 @@ clause_files =
     -- a field of limit 0 alone
     ∷ record {
       sheet = record {
-        version = 1;
         letters = 65 ∷ 66 ∷ [];
         limits = 0 ∷ [];
-        domains = unrestricted 2 ∷ [];
         equations = record { left = []; right = field 0 ∷ letter 1 ∷ [] } ∷ [];
         constraints = record { coefficients = pos 3 ∷ []; most = minus 1 } ∷ [];
       };
@@ -225,37 +209,11 @@ clause_files =
       clauses =
           (pos 1 ∷ []) ∷ (minus 1 ∷ []) ∷ (pos 3 ∷ []) ∷ (minus 3 ∷ pos 4 ∷ []) ∷ (minus 4 ∷ []) ∷ [];
     }
-    -- version 2: a field of A and C that is not empty, one of B alone, and one that no letter may stand in and that must not be empty
-    ∷ record {
-      sheet = record {
-        version = 2;
-        letters = 65 ∷ 66 ∷ 67 ∷ [];
-        limits = 2 ∷ 1 ∷ 1 ∷ [];
-        domains = record { least = 1; members = 5 } ∷ record { least = 0; members = 2 } ∷ record { least = 1; members = 0 } ∷ [];
-        equations = record { left = []; right = [] } ∷ [];
-        constraints = [];
-      };
-      variable_count = 17;
-      clause_count = 39;
-      bytes = 334;
-      kinds = (0 ∷ 0 ∷ 0 ∷ 0 ∷ 0 ∷ 0 ∷ 0 ∷ 1 ∷ []) ∷ [];
-      clauses =
-          (pos 1 ∷ pos 2 ∷ pos 3 ∷ pos 4 ∷ []) ∷ (minus 1 ∷ minus 2 ∷ []) ∷ (minus 1 ∷ minus 3 ∷ []) ∷ (minus 1 ∷ minus 4 ∷ [])
-          ∷ (minus 2 ∷ minus 3 ∷ []) ∷ (minus 2 ∷ minus 4 ∷ []) ∷ (minus 3 ∷ minus 4 ∷ []) ∷ (minus 4 ∷ pos 8 ∷ [])
-          ∷ (minus 2 ∷ []) ∷ (minus 4 ∷ []) ∷ (pos 5 ∷ pos 6 ∷ pos 7 ∷ pos 8 ∷ []) ∷ (minus 5 ∷ minus 6 ∷ [])
-          ∷ (minus 5 ∷ minus 7 ∷ []) ∷ (minus 5 ∷ minus 8 ∷ []) ∷ (minus 6 ∷ minus 7 ∷ []) ∷ (minus 6 ∷ minus 8 ∷ [])
-          ∷ (minus 7 ∷ minus 8 ∷ []) ∷ (minus 6 ∷ []) ∷ (pos 9 ∷ pos 10 ∷ pos 11 ∷ pos 12 ∷ []) ∷ (minus 9 ∷ minus 10 ∷ [])
-          ∷ (minus 9 ∷ minus 11 ∷ []) ∷ (minus 9 ∷ minus 12 ∷ []) ∷ (minus 10 ∷ minus 11 ∷ []) ∷ (minus 10 ∷ minus 12 ∷ [])
-          ∷ (minus 11 ∷ minus 12 ∷ []) ∷ (minus 9 ∷ []) ∷ (minus 11 ∷ []) ∷ (pos 13 ∷ pos 14 ∷ pos 15 ∷ pos 16 ∷ [])
-          ∷ (minus 13 ∷ minus 14 ∷ []) ∷ (minus 13 ∷ minus 15 ∷ []) ∷ (minus 13 ∷ minus 16 ∷ []) ∷ (minus 14 ∷ minus 15 ∷ [])
-          ∷ (minus 14 ∷ minus 16 ∷ []) ∷ (minus 15 ∷ minus 16 ∷ []) ∷ (minus 13 ∷ []) ∷ (minus 14 ∷ []) ∷ (minus 15 ∷ [])
-          ∷ (minus 16 ∷ []) ∷ (pos 17 ∷ []) ∷ [];
-    }
     ∷ []
 
 pub all_clauses :
     map (λ (c : ClauseFile). map (clause c.sheet) (ids c.sheet)) clause_files ≡ map (λ (c : ClauseFile). c.clauses) clause_files
-unfolding each from any keep total cells terms left_out literals least spread sums has_bit excluded excluded_ids place_ids location_ids equation_ids constraint_ids listed ids number clause
+unfolding each from any keep total cells terms left_out literals least spread sums place_ids location_ids equation_ids constraint_ids listed ids number clause
 all_clauses = refl
 
 pub all-variables :
@@ -265,13 +223,13 @@ all-variables = refl
 
 pub all_counts :
     map (λ (c : ClauseFile). length (ids c.sheet)) clause_files ≡ map (λ (c : ClauseFile). c.clause_count) clause_files
-unfolding each from any keep cells terms left_out least spread sums has_bit excluded excluded_ids place_ids location_ids equation_ids constraint_ids listed ids
+unfolding each from any keep cells terms left_out least spread sums place_ids location_ids equation_ids constraint_ids listed ids
 all_counts = refl
 
 -- C as it is added up by hand, and the locations of each kind
 pub all_added_up :
     map (λ (c : ClauseFile). added_up c.sheet) clause_files ≡ map (λ (c : ClauseFile). c.clause_count) clause_files
-unfolding has_bit ones each from keep total cells least spread sums
+unfolding each from keep total cells least spread sums
 all_added_up = refl
 
 abbrev kinds_of : Sheet → ℕ → List ℕ
@@ -285,7 +243,7 @@ all_kinds = refl
 
 -- The size of each file; "For sheet P it is 69".
 pub all_sizes : map (λ (c : ClauseFile). file_size c.sheet) clause_files ≡ map (λ (c : ClauseFile). c.bytes) clause_files
-unfolding each from any keep total cells terms left_out literals least spread sums has_bit excluded excluded_ids place_ids location_ids equation_ids constraint_ids listed ids number clause k_variables s_variables t_variables variables digits decimal problem_line clause_line line file_size
+unfolding each from any keep total cells terms left_out literals least spread sums place_ids location_ids equation_ids constraint_ids listed ids number clause k_variables s_variables t_variables variables digits decimal problem_line clause_line line file_size
 all_sizes = refl
 
 -- Sizes of files in which numbers go from one figure to two, and from two to three: of 18 variables and 41 clauses, where one place has the variables 9 to 12;
@@ -296,25 +254,21 @@ nine = letter 0 ∷ letter 0 ∷ letter 0 ∷ letter 0 ∷ letter 0 ∷ letter 0
 pub more_figures :
     map file_size
     (record {
-      version = 1;
       letters = 65 ∷ 66 ∷ 67 ∷ [];
       limits = 2 ∷ 1 ∷ [];
-      domains = unrestricted 3 ∷ unrestricted 3 ∷ [];
       equations = record { left = field 0 ∷ []; right = field 1 ∷ [] } ∷ [];
       constraints = [];
     }
-    ∷ record { version = 1; letters = 65 ∷ []; limits = []; domains = []; equations = record { left = nine; right = nine } ∷ []; constraints = [] }
+    ∷ record { letters = 65 ∷ []; limits = []; equations = record { left = nine; right = nine } ∷ []; constraints = [] }
     ∷ record {
-      version = 1;
       letters = 65 ∷ [];
       limits = 7 ∷ [];
-      domains = unrestricted 1 ∷ [];
       equations = record { left = []; right = [] } ∷ [];
       constraints = record { coefficients = pos 4 ∷ []; most = pos 28 } ∷ record { coefficients = pos 4 ∷ []; most = pos 28 } ∷ record { coefficients = pos 4 ∷ []; most = pos 21 } ∷ [];
     }
     ∷ [])
     ≡ 442 ∷ 847 ∷ 577 ∷ []
-unfolding each from any keep total cells terms left_out literals least spread sums has_bit excluded excluded_ids place_ids location_ids equation_ids constraint_ids listed ids number clause k_variables s_variables t_variables variables digits decimal problem_line clause_line line file_size
+unfolding each from any keep total cells terms left_out literals least spread sums place_ids location_ids equation_ids constraint_ids listed ids number clause k_variables s_variables t_variables variables digits decimal problem_line clause_line line file_size
 more_figures = refl
 
 -- the clause program's nine lines for sheet P
@@ -329,5 +283,5 @@ pub file_P : file P ≡
     ∷ 45 ∷ 52 ∷ 32 ∷ 50 ∷ 32 ∷ 48 ∷ 10
     ∷ 45 ∷ 53 ∷ 32 ∷ 48 ∷ 10
     ∷ []
-unfolding each from any keep total cells terms left_out literals has_bit excluded excluded_ids place_ids location_ids equation_ids listed ids number clause k_variables s_variables t_variables variables digits decimal problem_line clause_line line file
+unfolding each from any keep total cells terms left_out literals place_ids location_ids equation_ids listed ids number clause k_variables s_variables t_variables variables digits decimal problem_line clause_line line file
 file_P = refl

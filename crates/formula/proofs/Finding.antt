@@ -7,23 +7,21 @@ use lib.Dec.{ltb}
 use lib.IntN.{pos, ◌+ℤ◌}
 use lib.ListN.{length, get_or}
 use borrow.Author.Tests.{lt-ltb}
-use Rattle.model.specs.Lists.{pick, each, up_to, when, total}
-use Rattle.model.specs.Sheet.{Constraint, Sheet, limit, domain, constraint}
+use Rattle.model.specs.Lists.{each, up_to, when, total}
+use Rattle.model.specs.Sheet.{Constraint, Sheet, limit, constraint}
 use Rattle.model.specs.Range.{WellFormed}
-use Rattle.formula.specs.Clause.{ClauseId, SomeValue, NotBoth, BlankTail, Excluded, Start, Zero, Add, Bound, least, spread, excluded, excluded_ids, place_ids, id_at, blank, fields, left_cells, right_cells, none, not_both_ids}
+use Rattle.formula.specs.Clause.{ClauseId, SomeValue, NotBoth, BlankTail, Start, Zero, Add, Bound, least, spread, place_ids, id_at, blank, fields, left_cells, right_cells, none, not_both_ids}
 use Rattle.formula.specs.Kind.{side}
-use Rattle.formula.specs.Count.{place_start, equation_start, constraint_start, standing, not_both_count, excluded_count, place_count, field_count, location_size, row_count, equation_count, step_count, within, constraint_count, k_clauses, s_clauses}
+use Rattle.formula.specs.Count.{place_start, equation_start, constraint_start, standing, not_both_count, place_count, field_count, location_size, row_count, equation_count, step_count, within, constraint_count, k_clauses, s_clauses}
 use Rattle.model.proofs.Keeping.{length-map-from, map-from-at, total_const, total-fits, block_at, first-at, second_at}
-use Rattle.model.proofs.Lists.{by_test}
-use Rattle.formula.proofs.Excluded.{excluded_id_at}
 use Rattle.formula.proofs.Totals.{field_part, location_part, row_part, equation_part, sum_part, step_part, bound_part, constraint_part, field_parts, equation_parts, constraint_parts, ids-are, not_both_count_lem, place-count, field_count_lem, location_count_lem, row_count_lem, equation_count_lem, sum_count, step_count_lem, steps_count, constraint_count_lem, fields-count, equations-count}
 
 module _ (s : Sheet) (ok : WellFormed s) where
   -- Each part in the whole.
-  in_place : (f c n : ℕ) → f < fields s → c < limit s f → n < place_count (blank s) (limit s f) (domain s f) c
+  in_place : (f c n : ℕ) → f < fields s → c < limit s f → n < place_count (blank s) (limit s f) c
       → id_at s (place_start s f c + n) ≡ get_or (place_ids s f c) n none
   in_place f c n hf hc hn =
-      let h : ℕ → ℕ = place_count (blank s) (limit s f) (domain s f) in
+      let h : ℕ → ℕ = place_count (blank s) (limit s f) in
       let k : ℕ = total c h + n in
       let e : place_start s f c + n ≡ total f (field_count s) + k = omega arith in
       let inside : k < field_count s f = total-fits (limit s f) h c n hc hn in
@@ -78,8 +76,8 @@ module _ (s : Sheet) (ok : WellFormed s) where
         let m : ℕ = total a left + n in
         let inside : m < not_both_count (blank s) = total-fits (suc (blank s)) left a n (omega arith) hn in
         in_place f c (1 + m) hf hc (omega arith)
-        ∙ second_at none (SomeValue f c ∷ []) (pairs ++ (tail ++ excluded_ids s f c)) 1 m refl
-        ∙ first-at none pairs (tail ++ excluded_ids s f c) (not_both_count (blank s)) m (not_both_count_lem s f c) inside
+        ∙ second_at none (SomeValue f c ∷ []) (pairs ++ tail) 1 m refl
+        ∙ first-at none pairs tail (not_both_count (blank s)) m (not_both_count_lem s f c) inside
         ∙ block_at (not_both_ids s f c) (suc (blank s)) left (λ a h. length-map-from (NotBoth f c a) (suc a) (left a)) none a n (omega arith) hn
         ∙ map-from-at (NotBoth f c a) none (suc a) (left a) n hn
 
@@ -90,21 +88,9 @@ module _ (s : Sheet) (ok : WellFormed s) where
         let e : 1 + not_both_count (blank s) ≡ 1 + (not_both_count (blank s) + 0) = omega arith in
         in_place f c (1 + not_both_count (blank s)) hf hc (rw t (omega arith))
         ∙ ap (λ z. get_or (place_ids s f c) z none) e
-        ∙ second_at none (SomeValue f c ∷ []) (pairs ++ (tail ++ excluded_ids s f c)) 1 (not_both_count (blank s) + 0) refl
-        ∙ second_at none pairs (tail ++ excluded_ids s f c) (not_both_count (blank s)) 0 (not_both_count_lem s f c)
+        ∙ second_at none (SomeValue f c ∷ []) (pairs ++ tail) 1 (not_both_count (blank s) + 0) refl
+        ∙ second_at none pairs tail (not_both_count (blank s)) 0 (not_both_count_lem s f c)
         ∙ rw t
-
-    pub excluded-at : (n : ℕ) → n < excluded_count (blank s) (domain s f) c
-        → id_at s (place_start s f c + (1 + (not_both_count (blank s) + (pick (ltb (suc c) (limit s f)) 1 0 + n)))) ≡ Excluded f c (get_or (excluded (blank s) (domain s f) c) n 0)
-    unfolding place_ids
-    excluded-at n h =
-        let t : ℕ = pick (ltb (suc c) (limit s f)) 1 0 in
-        let many : length tail ≡ t = by_test (ltb (suc c) (limit s f)) (λ e. rw e) (λ e. rw e) in
-        in_place f c (1 + (not_both_count (blank s) + (t + n))) hf hc (omega arith)
-        ∙ second_at none (SomeValue f c ∷ []) (pairs ++ (tail ++ excluded_ids s f c)) 1 (not_both_count (blank s) + (t + n)) refl
-        ∙ second_at none pairs (tail ++ excluded_ids s f c) (not_both_count (blank s)) (t + n) (not_both_count_lem s f c)
-        ∙ second_at none tail (excluded_ids s f c) t n many
-        ∙ excluded_id_at s f c none n h
 
   -- The clauses of an equation.
   module _ (p : ℕ) (hp : p < length s.equations) where

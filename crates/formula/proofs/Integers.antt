@@ -81,11 +81,11 @@ sum_of c d zero = pos 0
 sum_of c d (suc k) = sum_of c d k +ℤ coefficient c k *ℤ pos (d k)
 
 -- a sum's place above the least
-pub from_least : (l : ℤ) (n : ℕ) → l +ℤ pos n -ℤ l ≡ pos n
-from_least l n = ap (λ z. z -ℤ l) (+ℤ_comm l (pos n)) ∙ +ℤ-neg_ℤ_cancel (pos n) l
+pub from-least : (l : ℤ) (n : ℕ) → l +ℤ pos n -ℤ l ≡ pos n
+from-least l n = ap (λ z. z -ℤ l) (+ℤ_comm l (pos n)) ∙ +ℤ-neg_ℤ_cancel (pos n) l
 
 pub above-least : (l : ℤ) (n : ℕ) → nat_abs (l +ℤ pos n -ℤ l) ≡ n
-above-least l n = ap nat_abs (from_least l n)
+above-least l n = ap nat_abs (from-least l n)
 
 module _ (s : Sheet) (c : Constraint) where
   -- one field more

@@ -1,6 +1,6 @@
 -- The K clauses. Where they are met there is just one true value at each place, blanks stand at a field's end only, and what the places
--- hold is a legal substitution, as which the K variables read, and which keeps the fields' domains. The other way round, K variables that read as a legal
--- substitution spell it, and meet the K clauses where it keeps the domains. Assumes nothing.
+-- hold is a legal substitution, as which the K variables read. The other way round, K variables that read as a legal substitution meet
+-- the K clauses and spell it. Assumes nothing.
 use mathlib.Core.Path.{◌≡◌, refl, sym, ap, ap₂, subst, ◌∙◌}
 use mathlib.Core.Bool.{Bool, true}
 use mathlib.Core.List.{List, [], ◌∷◌}
@@ -12,14 +12,14 @@ use lib.ListN.{length, get_or}
 use lib.Seq.{ext_get_or}
 use borrow.Author.Tests.{ltb-true, ltb-false, eqb-true, eqb-false, eq-eqb}
 use Rattle.model.specs.Lists.{any, up_to, All}
-use Rattle.model.specs.Sheet.{has_bit, Sheet, limit, domain}
-use Rattle.model.specs.Word.{Substitution, text, Legal, FieldKeeps}
-use Rattle.formula.specs.Clause.{K, blank, fields, yes, Excluded, terms}
+use Rattle.model.specs.Sheet.{Sheet, limit}
+use Rattle.model.specs.Word.{Substitution, text, Legal}
+use Rattle.formula.specs.Clause.{K, blank, fields, yes, terms}
 use Rattle.formula.specs.Numbering.{number}
 use Rattle.formula.specs.Assignment.{Assignment, true_values, OneValue, held, up_to_blank, spelled}
-use Rattle.model.proofs.Lists.{at, from_at, never, by_test, or_left, imply, implied, or_last}
+use Rattle.model.proofs.Lists.{at, never, by_test, or_left, imply, implied, or_last}
 use Rattle.model.proofs.Keeping.{keep_in, below_in, keep_one, any_out, any_in, map-from-at, length-map-from}
-use Rattle.formula.proofs.Named.{Values, AtPlace}
+use Rattle.formula.proofs.Named.{AtPlace}
 use Rattle.model.proofs.Values.{place-letter, place-blank}
 use Rattle.formula.proofs.Terms.{Valuation, named, truth, Met, Reads}
 
@@ -35,7 +35,7 @@ held_small s w f c =
     first (x ∷ xs) h = at (λ a. a ≤ blank s) (x ∷ xs) 0 (blank s) h (omega arith)
 
 -- one place
-module _ (s : Sheet) (w : Assignment) (f c : ℕ) (at : Values s (Met s (named s w)) f c) where
+module _ (s : Sheet) (w : Assignment) (f c : ℕ) (at : AtPlace s (Met s (named s w)) f c) where
   abbrev v : ℕ → Bool
   v a = named s w (K f c a)
 
@@ -132,9 +132,9 @@ module _ (s : Sheet) (w : Assignment) where
   }
 
 -- Where the K clauses are met, the K variables read as it, and after a blank there is a blank.
-module _ (s : Sheet) (w : Assignment) (places : (f c : ℕ) → f < fields s → c < limit s f → Values s (Met s (named s w)) f c) where
-  next_blank : (f : ℕ) → f < fields s → (c : ℕ) → suc c < limit s f → held s w f c ≡ blank s → held s w f (suc c) ≡ blank s
-  next_blank f k c l e =
+module _ (s : Sheet) (w : Assignment) (places : (f c : ℕ) → f < fields s → c < limit s f → AtPlace s (Met s (named s w)) f c) where
+  pub tail : (f : ℕ) → f < fields s → (c : ℕ) → suc c < limit s f → held s w f c ≡ blank s → held s w f (suc c) ≡ blank s
+  tail f k c l e =
       let next = places f (suc c) k l in
       eqb-true _ _ (sym (held-only s w f (suc c) next (blank s) (omega arith)) ∙ blank_next s w f c (places f c k (omega arith)) l e)
 
@@ -143,12 +143,8 @@ module _ (s : Sheet) (w : Assignment) (places : (f c : ℕ) → f < fields s →
       let q : 0 + c ≡ c = omega arith in
       held-only s w f c (places f c k l) a m
       ∙ ap (λ z. eqb z a) (sym (ap (λ (t : List ℕ). get_or t c (blank s)) (spelled-text s w f k)
-      ∙ text_at_lem (blank s) (held s w f) (limit s f) (next_blank f k) (limit s f) 0 c (omega arith) l
+      ∙ text_at_lem (blank s) (held s w f) (limit s f) (tail f k) (limit s f) 0 c (omega arith) l
       ∙ ap (held s w f) q))
-
-pub tail : (s : Sheet) (w : Assignment) → ((f c : ℕ) → f < fields s → c < limit s f → AtPlace s (Met s (named s w)) f c)
-    → (f : ℕ) → f < fields s → (c : ℕ) → suc c < limit s f → held s w f c ≡ blank s → held s w f (suc c) ≡ blank s
-tail s w places = next_blank s w (λ f c k l. (places f c k l).values)
 
 -- What a legal substitution has at a place: a letter or blank, and after a blank a blank.
 module _ (s : Sheet) (g : Substitution) (legal : Legal s g) (f c : ℕ) (h : f < fields s) where
@@ -162,10 +158,10 @@ module _ (s : Sheet) (g : Substitution) (legal : Legal s g) (f c : ℕ) (h : f <
       (λ t. let b = place-letter (blank s) (text g f) c (legal.admits f h).over_letters (ltb-true _ _ t) in absurd (omega arith))
       (λ t. place-blank (blank s) (text g f) (suc c) (let b = ltb-false c (length (text g f)) t in omega arith))
 
--- What reads as a legal substitution meets the K clauses that hold for every domain.
-values_met : (s : Sheet) (v : Valuation) (g : Substitution) → Legal s g → Reads s v g → (f c : ℕ) → f < fields s → c < limit s f → Values s (Met s v) f c
+-- What reads as a legal substitution meets the K clauses.
+pub places_met : (s : Sheet) (v : Valuation) (g : Substitution) → Legal s g → Reads s v g → (f c : ℕ) → f < fields s → c < limit s f → AtPlace s (Met s v) f c
 unfolding terms any
-values_met s v g legal reads f c h k =
+places_met s v g legal reads f c h k =
     let x : ℕ = get_or (text g f) c (blank s) in
     let small : x ≤ blank s = place-small s g legal f c h in
     record {
@@ -178,52 +174,6 @@ values_met s v g legal reads f c h k =
           let e : x ≡ blank s = eqb-true _ _ (sym (reads f c (blank s) h k (omega arith)) ∙ p) in
           or_left _ (reads f (suc c) (blank s) h l (omega arith) ∙ eq-eqb _ _ (place_next s g legal f c h e)));
     }
-
--- What K variables that read as a legal substitution say of one field: its text keeps the domain where the clauses of its places are met, and these are met
--- where it does.
-module _ (s : Sheet) (v : Valuation) (g : Substitution) (legal : Legal s g) (reads : Reads s v g) (f : ℕ) (h : f < fields s) where
-  -- the value at a place is not excluded there
-  not_there : (c : ℕ) → c < limit s f → (a : ℕ) → a ≤ blank s → Met s v (Excluded f c a) → get_or (text g f) c (blank s) ≡ a → ⊥
-  unfolding terms any
-  not_there c k a l met e = never (implied met (reads f c a h k l ∙ eq-eqb _ a e))
-
-  there_not : (c : ℕ) → c < limit s f → (a : ℕ) → a ≤ blank s → (get_or (text g f) c (blank s) ≡ a → ⊥) → Met s v (Excluded f c a)
-  unfolding terms any
-  there_not c k a l n = imply (v (K f c a)) (λ p. absurd (n (eqb-true _ a (sym (reads f c a h k l) ∙ p))))
-
-  pub met_keeps : (domain s f).least ≤ limit s f → ((c : ℕ) → c < limit s f → AtPlace s (Met s v) f c) → FieldKeeps s g f
-  met_keeps low at_place =
-      let t : List ℕ = text g f in
-      let short = (legal.admits f h).no_longer in
-      record {
-        long_enough = by_test (ltb (length t) (domain s f).least)
-            (λ e.
-            let k = ltb-true (length t) (domain s f).least e in
-            absurd (not_there (length t) (omega arith) (blank s) (omega arith) ((at_place (length t) (omega arith)).not_short k) (place-blank (blank s) t (length t) (omega arith))))
-            (λ e. ltb-false (length t) (domain s f).least e);
-        of_members = from_at (λ a. has_bit (domain s f).members a ≡ true) (blank s) t (λ c k.
-            let a : ℕ = get_or t c (blank s) in
-            let small = place-letter (blank s) t c (legal.admits f h).over_letters k in
-            by_test (has_bit (domain s f).members a)
-            (λ e. e)
-            (λ e. absurd (not_there c (omega arith) a (omega arith) ((at_place c (omega arith)).not_admitted a small e) refl)));
-      }
-
-  pub keeps_met : FieldKeeps s g f → (c : ℕ) → c < limit s f → AtPlace s (Met s v) f c
-  keeps_met keeps c k =
-      let t : List ℕ = text g f in
-      record {
-        values = values_met s v g legal reads f c h k;
-        not_admitted = λ a l e. there_not c k a (omega arith) (λ is. by_test (ltb c (length t))
-            (λ i.
-            let member = at (λ a. has_bit (domain s f).members a ≡ true) t c (blank s) keeps.of_members (ltb-true _ _ i) in
-            never (sym e ∙ ap (has_bit (domain s f).members) (sym is) ∙ member))
-            (λ i. let b = place-blank (blank s) t c (ltb-false _ _ i) in omega arith));
-        not_short = λ l. there_not c k (blank s) (omega arith) (λ is.
-            let long = keeps.long_enough in
-            let b = place-letter (blank s) t c (legal.admits f h).over_letters (omega arith) in
-            omega arith);
-      }
 
 -- two texts are equal by what they have at each place, blank past the end
 text_ext : (l : ℕ) (t u : List ℕ) → All (λ a. a < l) t → All (λ a. a < l) u → ((c : ℕ) → get_or t c l ≡ get_or u c l) → t ≡ u
@@ -258,5 +208,5 @@ module _ (s : Sheet) (v : Valuation) (g h : Substitution) (lg : Legal s g) (lh :
 -- So an assignment whose K variables read as a legal substitution spells it.
 pub reads_spelled : (s : Sheet) (w : Assignment) (g : Substitution) → Legal s g → Reads s (named s w) g → spelled s w ≡ g
 reads_spelled s w g legal reads =
-    let at = values_met s (named s w) g legal reads in
+    let at = places_met s (named s w) g legal reads in
     reads_unique s (named s w) (spelled s w) g (spelled-legal s w) legal (spelled_reads s w at) reads

@@ -1,7 +1,6 @@
 pub mod ClauseFiles
 pub mod Assigned
 pub mod Integers
-pub mod Excluded
 pub mod Named
 pub mod Valid
 pub mod Standing

@@ -12,7 +12,7 @@ use borrow.Author.Tests.{ne_eqb}
 use Rattle.model.specs.Lists.{each, up_to, All}
 use Rattle.model.specs.Sheet.{Sheet}
 use Rattle.model.specs.Range.{InRange}
-use Rattle.formula.specs.Clause.{Literal, is, isnt, Term, known, unknown, ClauseId, SomeValue, NotBoth, BlankTail, Excluded, Start, Left, Right, Both, Match, End, Zero, Add, Bound, terms, literal_of, literals, ids, id_at, blank, yes, K, none}
+use Rattle.formula.specs.Clause.{Literal, is, isnt, Term, known, unknown, ClauseId, SomeValue, NotBoth, BlankTail, Start, Left, Right, Both, Match, End, Zero, Add, Bound, terms, literal_of, literals, ids, id_at, blank, yes, K, none}
 use Rattle.formula.specs.Numbering.{signed_number, number, clause, variables, variable_count}
 use Rattle.formula.specs.Count.{IdIn}
 use Rattle.formula.specs.Dimacs.{decimal, problem_line, literal_bytes, clause_line, line, file, file_size, most_file, with_sign, numbers_from, numbers, value_from}
@@ -154,7 +154,6 @@ module _ (s : Sheet) (ok : InRange s) where
       short_by (SomeValue f c) 9 4 (omega arith) (values-short f c h)
   clause-short (NotBoth f c a b) h = four (NotBoth f c a b) (omega arith) h
   clause-short (BlankTail f c) h = four (BlankTail f c) (omega arith) h
-  clause-short (Excluded f c a) h = four (Excluded f c a) (omega arith) h
   clause-short (Start p) h = four (Start p) (omega arith) h
   clause-short (Left p i j) h = four (Left p i j) (omega arith) h
   clause-short (Right p i j) h = four (Right p i j) (omega arith) h
@@ -203,7 +202,7 @@ file-small s ok =
     let c = clause_count_lem s (well_formed s ok) in
     let most = clauses_small s ok in
     let m = file_narrow s ok in
-    let few : suc (length (ids s)) ≤ 48033 = omega arith in
+    let few : suc (length (ids s)) ≤ 47601 = omega arith in
     let same : 38 ≤ 38 = omega arith in
     let all = mul-le-mul few same in
     omega arith

@@ -1,7 +1,7 @@
 -- Which clauses `listed` lists: P of all its names is P of each name in its range. What holds of each clause, apart from order and
 -- number, is shown by this, and not by the text of `listed`. Assumes nothing.
 use mathlib.Core.Path.{◌≡◌, refl, sym, subst}
-use mathlib.Core.Bool.{true, false, ◌&&◌, ◌||◌}
+use mathlib.Core.Bool.{true, ◌&&◌, ◌||◌}
 use mathlib.Core.List.{List, [], ◌∷◌, map}
 use Prim.Native.Nat.{ℕ, suc, ◌-◌, ◌<◌, ◌≤◌}
 use native.Mathlib.Omega.{arith}
@@ -11,24 +11,18 @@ use lib.ListN.{length}
 use lib.Signed.{lt_z}
 use borrow.Author.Tests.{ltb-true, eqb-true, lt-ltb, eq-eqb}
 use Rattle.model.specs.Lists.{each, from, up_to, when, All}
-use Rattle.model.specs.Sheet.{Constraint, has_bit, Sheet, limit, domain, constraint}
-use Rattle.formula.specs.Clause.{ClauseId, SomeValue, NotBoth, BlankTail, Excluded, Start, Left, Right, Both, Match, End, Zero, Add, Bound, least, spread, sums, excluded, excluded_ids, place_ids, location_ids, equation_ids, constraint_ids, listed, stays, ids, blank, fields, left_cells, right_cells, not_both_ids, add_ids}
+use Rattle.model.specs.Sheet.{Constraint, Sheet, limit, constraint}
+use Rattle.formula.specs.Clause.{ClauseId, SomeValue, NotBoth, BlankTail, Start, Left, Right, Both, Match, End, Zero, Add, Bound, least, spread, sums, place_ids, location_ids, equation_ids, constraint_ids, listed, stays, ids, blank, fields, left_cells, right_cells, not_both_ids, add_ids}
 use Rattle.formula.specs.Count.{IdIn}
 use Rattle.model.proofs.Lists.{by_test, or_left, or_right, and_split, and_join, append_out, append_in, weaken, map_out, map_in, each_out, each_in, from_out, below_out}
 use Rattle.formula.proofs.Integers.{sum_in}
-use Rattle.formula.proofs.Excluded.{excluded-letter, excluded-blank, excluded_in}
 use Rattle.model.proofs.Keeping.{one_out, one_in, when_out, when_in, keep_in, from_in, below_in, loop_out, loop_in}
 
--- the clauses of place c of field f that hold for every domain, and all of them
-pub record Values (s : Sheet) (P : ClauseId → Type 0) (f c : ℕ) : Type 0 where
+-- the clauses of place c of field f
+pub record AtPlace (s : Sheet) (P : ClauseId → Type 0) (f c : ℕ) : Type 0 where
   pub some_value : P (SomeValue f c)
   pub not_both : (a b : ℕ) → a < b → b ≤ blank s → P (NotBoth f c a b)
   pub blank_tail : suc c < limit s f → P (BlankTail f c)
-
-pub record AtPlace (s : Sheet) (P : ClauseId → Type 0) (f c : ℕ) : Type 0 where
-  pub values : Values s P f c
-  pub not_admitted : (a : ℕ) → a < blank s → has_bit (domain s f).members a ≡ false → P (Excluded f c a)
-  pub not_short : c < (domain s f).least → P (Excluded f c (blank s))
 
 -- the clauses of equation p, with m cells on the left and n on the right
 pub record AtEquation (s : Sheet) (P : ClauseId → Type 0) (p m n : ℕ) : Type 0 where
@@ -56,37 +50,28 @@ pub record Every (s : Sheet) (P : ClauseId → Type 0) : Type 0 where
 
 module _ (s : Sheet) (P : ClauseId → Type 0) where
   place_out : (f c : ℕ) → All P (place_ids s f c) → AtPlace s P f c
-  unfolding place_ids excluded_ids
+  unfolding place_ids
   place_out f c h =
       let pairs : ℕ → List ClauseId = not_both_ids s f c in
       let r = append_out P (SomeValue f c ∷ []) _ h in
       let q = append_out P (each (up_to (suc (blank s))) pairs) _ r.1 in
-      let z = append_out P (when (ltb (suc c) (limit s f)) (BlankTail f c ∷ [])) _ q.1 in
-      let e = map_out P (Excluded f c) (excluded (blank s) (domain s f) c) z.1 in
-      let Q : ℕ → Type 0 = λ a. P (Excluded f c a) in
       record {
-        values = record {
-          some_value = one_out P r.0;
-          not_both = λ a b lt le.
-              let of-a = map_out P (NotBoth f c a) (from (suc a) (blank s - a)) (loop_out P (suc (blank s)) pairs q.0 a (omega arith)) in
-              from_out (λ b. P (NotBoth f c a b)) (suc a) (blank s - a) of-a b lt (omega arith);
-          blank_tail = λ lt. one_out P (when_out P _ _ z.0 (lt-ltb _ _ lt));
-        };
-        not_admitted = excluded-letter Q (blank s) (domain s f) c e;
-        not_short = excluded-blank Q (blank s) (domain s f) c e;
+        some_value = one_out P r.0;
+        not_both = λ a b lt le.
+            let of-a = map_out P (NotBoth f c a) (from (suc a) (blank s - a)) (loop_out P (suc (blank s)) pairs q.0 a (omega arith)) in
+            from_out (λ b. P (NotBoth f c a b)) (suc a) (blank s - a) of-a b lt (omega arith);
+        blank_tail = λ lt. one_out P (when_out P _ _ q.1 (lt-ltb _ _ lt));
       }
 
   pub place_in : (f c : ℕ) → AtPlace s P f c → All P (place_ids s f c)
-  unfolding place_ids excluded_ids
+  unfolding place_ids
   place_in f c h =
       let pairs : ℕ → List ClauseId = not_both_ids s f c in
-      append_in P (SomeValue f c ∷ []) _ (one_in P h.values.some_value)
+      append_in P (SomeValue f c ∷ []) _ (one_in P h.some_value)
       (append_in P (each (up_to (suc (blank s))) pairs) _
       (loop_in P (suc (blank s)) pairs (λ a lt. map_in P (NotBoth f c a) (from (suc a) (blank s - a))
-      (from_in (λ b. P (NotBoth f c a b)) (suc a) (blank s - a) (λ b low high. h.values.not_both a b low (omega arith)))))
-      (append_in P (when (ltb (suc c) (limit s f)) (BlankTail f c ∷ [])) _ (when_in P _ _ (λ e. one_in P (h.values.blank_tail (ltb-true _ _ e))))
-      (map_in P (Excluded f c) (excluded (blank s) (domain s f) c)
-      (excluded_in (λ a. P (Excluded f c a)) (blank s) (domain s f) c h.not_admitted h.not_short))))
+      (from_in (λ b. P (NotBoth f c a b)) (suc a) (blank s - a) (λ b low high. h.not_both a b low (omega arith)))))
+      (when_in P _ _ (λ e. one_in P (h.blank_tail (ltb-true _ _ e)))))
 
   module _ (p m n : ℕ) where
     -- the clauses of one location
@@ -236,13 +221,9 @@ module _ (s : Sheet) (P : ClauseId → Type 0) where
 listed-ids : (s : Sheet) → All (IdIn s) (listed s)
 listed-ids s = listed_in s (IdIn s) (record {
   places = λ f c a b. record {
-    values = record {
-      some_value = (a, b);
-      not_both = λ x y lt le. ((a, b), lt, le);
-      blank_tail = λ lt. ((a, b), lt);
-    };
-    not_admitted = λ x lt e. ((a, b), omega arith);
-    not_short = λ lt. ((a, b), omega arith);
+    some_value = (a, b);
+    not_both = λ x y lt le. ((a, b), lt, le);
+    blank_tail = λ lt. ((a, b), lt);
   };
   equations = λ p h. record {
     start = h;

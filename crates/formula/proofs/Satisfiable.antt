@@ -10,7 +10,6 @@ use Rattle.model.specs.Word.{Substitution, Legal, Solves}
 use Rattle.formula.specs.Clause.{Variable, K, fields}
 use Rattle.formula.specs.Numbering.{VariableIn}
 use Rattle.formula.specs.Assignment.{Assignment, Satisfies, OneValue, spelled}
-use Rattle.model.proofs.Known.{accepted-domains}
 use Rattle.model.proofs.Templates.{accepted_well_formed}
 use Rattle.formula.proofs.Numbering.{variable_of, variable_of_lem}
 use Rattle.formula.proofs.Terms.{named, Reads}
@@ -50,8 +49,8 @@ module _ (b : List ℕ) (ok : Accepted b) where
   pub sound : (w : Assignment) → Satisfies s w → ((f c : ℕ) → f < fields s → c < limit s f → OneValue s w f c) × Legal s (spelled s w) × Solves s (spelled s w)
   sound w h =
       let met = satisfies_met s w h in
-      let solution = met_solves s (accepted_well_formed b ok) (accepted-domains b ok) w met in
-      ((λ f c k l. one_value s w f c (met.places f c k l).values), solution.is_legal, solution)
+      let solution = met_solves s (accepted_well_formed b ok) w met in
+      ((λ f c k l. one_value s w f c (met.places f c k l)), solution.is_legal, solution)
 
   -- "It spells the filling that gives each field f, from place 0 up to the first blank or the limit, at place c the letter a for which
   -- K(f,c,a) is true": the assignment of a filling spells it, and so that of a solution spells that solution.

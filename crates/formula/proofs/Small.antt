@@ -9,7 +9,7 @@ use lib.IntN.{ℤ, pos, negsuc, nat_abs}
 use lib.ListN.{length, get_or-eq_default}
 use borrow.Author.Tests.{ltb-true, ltb-false}
 use Rattle.model.specs.Lists.{pick, total}
-use Rattle.model.specs.Sheet.{Domain, Sheet, limit, domain, equation, constraint, coefficient}
+use Rattle.model.specs.Sheet.{Sheet, limit, equation, constraint, coefficient}
 use Rattle.model.specs.Range.{ConstraintIn, InRange}
 use Rattle.formula.specs.Clause.{lowest, least, spread, blank, fields, left_cells, right_cells}
 use Rattle.formula.specs.Numbering.{k_size, s_size, row_size, t_size, k_count, s_count, t_count, variable_count}
@@ -150,23 +150,18 @@ module _ (s : Sheet) (ok : InRange s) where
   variables-small = let k = k_small in let c = s_small in let t = t_small in omega arith
 
   -- the clauses: of a place, of a location, of a field's step
-  k_clauses_small : k_clauses s ≤ 2256
+  k_clauses_small : k_clauses s ≤ 1824
   unfolding total
-  k_clauses_small = total-small (fields s) 6 376 (field_count s) fields-few (λ f _.
-      total-small (limit s f) 8 47 (place_count (blank s) (limit s f) (domain s f)) (limit-small f) (λ c _. place-few (limit s f) (domain s f) c))
+  k_clauses_small = total-small (fields s) 6 304 (field_count s) fields-few (λ f _.
+      total-small (limit s f) 8 38 (place_count (blank s) (limit s f)) (limit-small f) (λ c _. place-few (limit s f) c))
     where
       pairs-few : not_both_count (blank s) ≤ total 9 (λ a. 8 - a)
       pairs-few =
           let l = letters-few in
           total_grows (suc (blank s)) 9 (λ a. blank s - a) (λ a. 8 - a) (omega arith) (λ a _. omega arith)
 
-      place-few : (n : ℕ) (d : Domain) (c : ℕ) → place_count (blank s) n d c ≤ 47
-      place-few n d c =
-          let l = letters-few in
-          let p = pairs-few in
-          let q = one_or_none (ltb (suc c) n) in
-          let r = one_or_none (ltb c d.least) in
-          omega arith
+      place-few : (n c : ℕ) → place_count (blank s) n c ≤ 38
+      place-few n c = let p = pairs-few in let q = one_or_none (ltb (suc c) n) in omega arith
 
   s_clauses_small : s_clauses s ≤ 27504
   unfolding equation_count
@@ -194,6 +189,6 @@ module _ (s : Sheet) (ok : InRange s) where
       mul-le-mul m n) in
       omega arith)
 
-  pub clauses_small : clause_count s ≤ 48032
+  pub clauses_small : clause_count s ≤ 47600
   unfolding clause_count
   clauses_small = let k = k_clauses_small in let c = s_clauses_small in let t = t_clauses_small in omega arith

@@ -1,6 +1,5 @@
 -- The clauses ask the sheet's question, over named variables: an assignment that meets them spells a solution, and the valuation of a
--- solution meets them. Assumes nothing but that each symbol names a letter or a field that the sheet has, and the first also that no least length is above its
--- field's limit.
+-- solution meets them. Assumes nothing but that each symbol names a letter or a field that the sheet has.
 use mathlib.Core.Path.{◌≡◌, refl, sym, ◌∙◌}
 use mathlib.Core.List.{List, [], map}
 use Prim.Native.Nat.{ℕ, ◌<◌, ◌≤◌}
@@ -10,20 +9,20 @@ use lib.IntN.{pos}
 use lib.ListN.{length, get_or, length-map, get_or-map}
 use Rattle.model.specs.Lists.{All}
 use Rattle.model.specs.Sheet.{Sheet, equation, template, constraint}
-use Rattle.model.specs.Range.{DomainsIn, WellFormed}
+use Rattle.model.specs.Range.{WellFormed}
 use Rattle.model.specs.Word.{Substitution, text, Legal, spell, EquationHolds, weight, ConstraintHolds, Solves}
 use Rattle.model.specs.Cells.{Cell, letter, place, cells, value, values}
 use Rattle.formula.specs.Clause.{K, S, T, blank, left_cells, right_cells, cell}
 use Rattle.formula.specs.Assignment.{Assignment, spelled}
 use Rattle.model.proofs.Lists.{at, from_at}
-use Rattle.model.proofs.Words.{same-word-equal, equal-same-word, keeps-fields, fields_keep}
+use Rattle.model.proofs.Words.{same-word-equal, equal-same-word, keeps_every}
 use Rattle.model.proofs.Values.{cells-spell}
 use Rattle.model.proofs.Templates.{symbols_in}
 use Rattle.formula.proofs.Integers.{eq_z}
 use Rattle.formula.proofs.Named.{Every}
 use Rattle.formula.proofs.Valid.{CellIn, cells_in, cell_in}
 use Rattle.formula.proofs.Terms.{Valuation, named, Met, Reads}
-use Rattle.formula.proofs.KClauses.{spelled_reads, spelled-legal, place-small, met_keeps, keeps_met}
+use Rattle.formula.proofs.KClauses.{spelled_reads, spelled-legal, place-small, places_met}
 use Rattle.model.proofs.Locations.{rests_same, locations_same, same_locations}
 use Rattle.formula.proofs.SClauses.{met_locations, locations_met}
 use Rattle.formula.proofs.TClauses.{constraint-holds, constraint_met}
@@ -58,11 +57,11 @@ module _ (s : Sheet) (ok : WellFormed s) where
         let e = length-map us (value (blank s) g) in
         rw (get_or-map (value (blank s) g) us i (letter 0)) (value-small s g legal (cell us i) (cell_in s ok p h side i (omega arith)))
 
-  pub met_solves : DomainsIn (blank s) s.limits s.domains → (w : Assignment) → Every s (Met s (named s w)) → Solves s (spelled s w)
-  met_solves domains w met =
+  pub met_solves : (w : Assignment) → Every s (Met s (named s w)) → Solves s (spelled s w)
+  met_solves w met =
       let g : Substitution = spelled s w in
       let legal : Legal s g = spelled-legal s w in
-      let reads : Reads s (named s w) g = spelled_reads s w (λ f c h k. (met.places f c h k).values) in
+      let reads : Reads s (named s w) g = spelled_reads s w met.places in
       record {
         is_legal = legal;
         equations_hold = from_at (EquationHolds s g) (record { left = []; right = [] }) s.equations (λ p h.
@@ -72,8 +71,7 @@ module _ (s : Sheet) (ok : WellFormed s) where
             ∙ side_spells g legal p h 1));
         constraints_hold = from_at (ConstraintHolds s g) (record { coefficients = []; most = pos 0 }) s.constraints (λ r h.
             constraint-holds s (named s w) g legal reads r (met.constraints r h));
-        keeps_all = fields_keep s g (λ f h.
-            met_keeps s (named s w) g legal reads f h (domains.each_in f h).least_in (λ c k. met.places f c h k));
+        keeps_all = keeps_every s g;
       }
 
   pub solves_met : (g : Substitution) → Solves s g → Every s (Met s (valuation s g))
@@ -82,7 +80,7 @@ module _ (s : Sheet) (ok : WellFormed s) where
       let legal : Legal s g = h.is_legal in
       let reads : Reads s (valuation s g) g = valuation_reads s g in
       record {
-        places = λ f c k. keeps_met s (valuation s g) g legal reads f k (keeps-fields s g h.keeps_all f k) c;
+        places = places_met s (valuation s g) g legal reads;
         equations = λ p k.
             let same = same-word-equal s (spell g (equation s p).left) (spell g (equation s p).right) (at (EquationHolds s g) s.equations p (record { left = []; right = [] }) h.equations_hold k) in
             locations_met s (valuation s g) g reads p (side_in p k 0) (side_in p k 1)

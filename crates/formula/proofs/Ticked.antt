@@ -4,20 +4,18 @@ use mathlib.Core.Path.{◌≡◌, refl, sym, ap, ap₂, ◌∙◌}
 use Prim.Native.Nat.{ℕ, zero, suc, ◌+◌, ◌-◌, ◌*◌, ◌<◌, ◌≤◌}
 use native.Mathlib.Nat.{add-mul, suc-mul, mul-suc}
 use native.Mathlib.Omega.{arith}
-use lib.Dec.{ltb}
 use lib.IntN.{pos, ◌+ℤ◌}
 use lib.ListN.{length}
 use lib.Signed.{lt_z}
 use Rattle.model.specs.Lists.{pick, keep, total}
-use Rattle.model.specs.Sheet.{ones, Sheet, limit, domain, constraint}
-use Rattle.model.specs.Range.{WellFormed, InRange}
+use Rattle.model.specs.Sheet.{Sheet, limit, constraint}
+use Rattle.model.specs.Range.{WellFormed}
 use Rattle.formula.specs.Clause.{stays, ids, location_ids, least, spread, sums, blank, fields, left_cells, right_cells}
 use Rattle.formula.specs.Kind.{Kind, same_letter_twice, different_letters, letter_then_field, field_then_letter, two_fields, used_up_before_letter, used_up_before_field, both_used_up, kind_count, kind_at, same_kind, locations_of, ticked}
-use Rattle.formula.specs.Count.{not_both_count, field_count, equation_count, step_count, within, constraint_count, clause_count, added_up}
+use Rattle.formula.specs.Count.{not_both_count, equation_count, step_count, within, constraint_count, k_clauses, clause_count, added_up}
 use Rattle.model.proofs.Keeping.{length-map-from, total_const, total-same}
 use Rattle.formula.proofs.Standing.{standing-is}
-use Rattle.model.proofs.Templates.{well_formed}
-use Rattle.formula.proofs.Totals.{over_limit, location_count_lem, clause_count_lem, field-parts}
+use Rattle.formula.proofs.Totals.{over_limit, location_count_lem, clause_count_lem}
 
 -- Of every location of every sheet, with any number of letters: the clauses that document 01 lists there and does not leave out.
 pub location_kind : (s : Sheet) → WellFormed s → (p : ℕ) → p < length s.equations → (i j : ℕ) → i ≤ length (left_cells s p) → j ≤ length (right_cells s p)
@@ -95,20 +93,14 @@ module _ (s : Sheet) (r : ℕ) where
       (total-same (fields s) (step_count s r) _ (λ k _. ap (λ z. z * suc (limit s k)) (sym (sums-many k))))
       (sym over_many)
 
--- The clauses of a field: of its places, and those that its domain adds.
-field_added : (s : Sheet) → InRange s → (f : ℕ) → f < fields s
-    → field_count s f ≡ total (limit s f) (λ c. 1 + (not_both_count (blank s) + pick (ltb (suc c) (limit s f)) 1 0)) + (limit s f * (blank s - ones (blank s) (domain s f).members) + (domain s f).least)
-field_added s ok f h = field-parts (blank s) (limit s f) (domain s f) (ok.domains_in.each_in f h).least_in
-
 -- C, as it is added up by hand.
-pub adds_up : (s : Sheet) → InRange s → length (ids s) ≡ added_up s
+pub adds_up : (s : Sheet) → WellFormed s → length (ids s) ≡ added_up s
 unfolding clause_count
 adds_up s ok =
-    clause_count_lem s (well_formed s ok)
-    ∙ ap₂ ◌+◌ (total-same (fields s) (field_count s) _ (field_added s ok))
-    (ap₂ ◌+◌
+    clause_count_lem s ok
+    ∙ ap₂ (λ x y. k_clauses s + (x + y))
     (total-same (length s.equations) (equation_count s) _ (λ p _. equation-ticked s p))
-    (total-same (length s.constraints) (constraint_count s) _ (λ r _. constraint_added s r)))
+    (total-same (length s.constraints) (constraint_count s) _ (λ r _. constraint_added s r))
 
 -- The pairs of two values, of l letters and blank, are half of l times l + 1: with one letter more each of the first values has one pair more.
 pairs-more : (l n : ℕ) → n ≤ suc l → total n (λ a. suc l - a) ≡ total n (λ a. l - a) + n

@@ -3,7 +3,7 @@ use mathlib.Core.Path.{◌≡◌, refl, sym, ap, ap₂, ◌∙◌}
 use mathlib.Core.Bool.{Bool, true, false, not}
 use mathlib.Core.List.{List, [], ◌∷◌, ◌++◌, map}
 use Prim.Native.Nat.{ℕ, zero, suc, ◌+◌, ◌-◌, ◌*◌, ◌<◌, ◌≤◌}
-use native.Mathlib.Nat.{suc-mul, mul-add}
+use native.Mathlib.Nat.{suc-mul}
 use native.Mathlib.Omega.{arith}
 use lib.Dec.{ltb}
 use lib.IntN.{ℤ, pos, negsuc, neg_ℤ, suc_ℤ, pred_ℤ, ◌+ℤ◌, ◌-ℤ◌, suc-pred, +ℤ_idr, +ℤ_assoc, +ℤ_comm, +ℤ_one, -ℤ_one, -ℤ-+ℤ_cancel, ℤ_ind}
@@ -11,14 +11,13 @@ use lib.ListN.{length, length-append}
 use lib.Signed.{lt_z}
 use borrow.Author.Tests.{ltb-true, ltb-false, lt-ltb, le-ltb}
 use Rattle.model.specs.Lists.{pick, each, from, up_to, any, when, keep, total}
-use Rattle.model.specs.Sheet.{Constraint, Domain, ones, Sheet, limit, domain, constraint}
+use Rattle.model.specs.Sheet.{Constraint, Sheet, limit, constraint}
 use Rattle.model.specs.Range.{WellFormed}
-use Rattle.formula.specs.Clause.{K, Literal, is, isnt, unknown, ClauseId, SomeValue, NotBoth, BlankTail, Start, Zero, Add, Bound, terms, sure, left_out, least, spread, sums, excluded_ids, place_ids, location_ids, equation_ids, constraint_ids, listed, stays, ids, blank, fields, left_cells, right_cells, not_both_ids, add_ids}
+use Rattle.formula.specs.Clause.{K, Literal, is, isnt, unknown, ClauseId, SomeValue, NotBoth, BlankTail, Start, Zero, Add, Bound, terms, sure, left_out, least, spread, sums, place_ids, location_ids, equation_ids, constraint_ids, listed, stays, ids, blank, fields, left_cells, right_cells, not_both_ids, add_ids}
 use Rattle.formula.specs.Kind.{side}
-use Rattle.formula.specs.Count.{standing, not_both_count, excluded_count, place_count, field_count, location_size, row_count, equation_count, step_count, at_most, within, constraint_count, k_clauses, s_clauses, clause_count}
+use Rattle.formula.specs.Count.{standing, not_both_count, place_count, field_count, location_size, row_count, equation_count, step_count, at_most, within, constraint_count, k_clauses, s_clauses, clause_count}
 use Rattle.model.proofs.Lists.{by_test, append_in}
-use Rattle.model.proofs.Keeping.{one_in, map-from_in, loop_in, map-map, each_map, each-when, length-map-from, keep_append, keep-map, keep-yes, keep_below, keep_all, keep-above, keep_loop, loop_same, total_const, total-same, total_both, length_loop}
-use Rattle.formula.proofs.Excluded.{excluded-ids-count, least-total}
+use Rattle.model.proofs.Keeping.{one_in, map-from_in, loop_in, map-map, each_map, each-when, length-map-from, keep_append, keep-map, keep-yes, keep_below, keep_all, keep-above, keep_loop, loop_same, total_const, total-same, length_loop}
 use Rattle.formula.proofs.Named.{place_in}
 use Rattle.formula.proofs.Standing.{sides_in, sure-only, standing-is, standing-count}
 
@@ -116,9 +115,9 @@ module _ (s : Sheet) where
   place-stays : (f c : ℕ) → keep (stays s) (place_ids s f c) ≡ place_ids s f c
   unfolding left_out terms any
   place-stays f c = keep_all (stays s) (place_ids s f c) (place_in s (λ q. stays s q ≡ true) f c (record {
-    values = record { some_value = stays-some f c; not_both = λ a b lt le. refl; blank_tail = λ lt. refl };
-    not_admitted = λ a lt e. refl;
-    not_short = λ lt. refl;
+    some_value = stays-some f c;
+    not_both = λ a b lt le. refl;
+    blank_tail = λ lt. refl;
   }))
 
 -- What is not left out. Of a field: of each of its places.
@@ -220,19 +219,17 @@ module _ (s : Sheet) where
   not_both_count_lem f c =
       length_loop (not_both_ids s f c) (suc (blank s)) (λ a. blank s - a) (λ a h. length-map-from (NotBoth f c a) (suc a) (blank s - a))
 
-  pub place-count : (f c : ℕ) → length (place_ids s f c) ≡ place_count (blank s) (limit s f) (domain s f) c
+  pub place-count : (f c : ℕ) → length (place_ids s f c) ≡ place_count (blank s) (limit s f) c
   unfolding place_ids
   place-count f c =
       let tail : List ClauseId = when (ltb (suc c) (limit s f)) (BlankTail f c ∷ []) in
-      let w = length-append tail (excluded_ids s f c) in
-      let x = length-append (each (up_to (suc (blank s))) (not_both_ids s f c)) (tail ++ excluded_ids s f c) in
+      let x = length-append (each (up_to (suc (blank s))) (not_both_ids s f c)) tail in
       let y = not_both_count_lem f c in
-      let v = excluded-ids-count s f c in
       let z : length tail ≡ pick (ltb (suc c) (limit s f)) 1 0 = by_test (ltb (suc c) (limit s f)) (λ e. rw e) (λ e. rw e) in
       omega arith
 
   pub field_count_lem : (f : ℕ) → length (field_part s f) ≡ field_count s f
-  field_count_lem f = length_loop (place_ids s f) (limit s f) (place_count (blank s) (limit s f) (domain s f)) (λ c h. place-count f c)
+  field_count_lem f = length_loop (place_ids s f) (limit s f) (place_count (blank s) (limit s f)) (λ c h. place-count f c)
 
   module _ (ok : WellFormed s) (p : ℕ) (hp : p < length s.equations) where
     pub location_count_lem : (i j : ℕ) → length (location_part s p i j) ≡ location_size s p i j
@@ -286,40 +283,17 @@ module _ (s : Sheet) where
       ∙ ap₂ ◌+◌ (equations-count ok)
       (length_loop (constraint_part s) (length s.constraints) (constraint_count s) (λ r h. constraint_count_lem r)))
 
--- The places of a field: what each has without its domain, where every one but the last has one clause more than its pairs and the first; and what its domain excludes.
-abbrev pub free_count : ℕ → ℕ → ℕ → ℕ
-free_count l n c = 1 + (not_both_count l + pick (ltb (suc c) n) 1 0)
-
-pub place-parts : (l n : ℕ) (d : Domain) (m : ℕ) → total m (place_count l n d) ≡ total m (free_count l n) + (m * (l - ones l d.members) + total m (λ c. pick (ltb c d.least) 1 0))
-place-parts l n d m =
-    let out : ℕ = l - ones l d.members in
-    let x = total_both m (λ c. out) (λ c. pick (ltb c d.least) 1 0) in
-    let y = total_const m out in
-    let z = total_both m (free_count l n) (excluded_count l d) in
-    let w = total-same m (place_count l n d) (λ c. free_count l n c + excluded_count l d c) (λ c k. omega arith) in
-    omega arith
-
--- all of a field whose least length is not above its limit
-pub field-parts : (l n : ℕ) (d : Domain) → d.least ≤ n → total n (place_count l n d) ≡ total n (free_count l n) + (n * (l - ones l d.members) + d.least)
-field-parts l n d h = let x = place-parts l n d n in let y = least-total d.least n h in omega arith
-
-free_before : (l n c : ℕ) → c < n → total c (free_count l n) ≡ c * (2 + not_both_count l)
-free_before l n c h =
-    total-same c (free_count l n) (λ i. 2 + not_both_count l) (λ i k. rw (lt-ltb (suc i) n (omega arith)) (omega arith))
+-- Every place of a field but the last has one clause more than its pairs and the first.
+pub place-before : (l n c : ℕ) → c < n → total c (place_count l n) ≡ c * (2 + not_both_count l)
+place-before l n c h =
+    total-same c (place_count l n) (λ i. 2 + not_both_count l) (λ i k. rw (lt-ltb (suc i) n (omega arith)) (omega arith))
     ∙ total_const c (2 + not_both_count l)
 
-free_total : (l n : ℕ) → 0 < n → total n (free_count l n) + 1 ≡ n * (2 + not_both_count l)
+pub field-total : (l n : ℕ) → 0 < n → total n (place_count l n) + 1 ≡ n * (2 + not_both_count l)
 unfolding total
-free_total l zero h = absurd (omega arith)
-free_total l (suc m) h =
-    let before = free_before l (suc m) m (omega arith) in
-    let last : free_count l (suc m) m ≡ 1 + not_both_count l = rw (le-ltb (suc m) (suc m) (omega arith)) (omega arith) in
+field-total l zero h = absurd (omega arith)
+field-total l (suc m) h =
+    let before = place-before l (suc m) m (omega arith) in
+    let last : place_count l (suc m) m ≡ 1 + not_both_count l = rw (le-ltb (suc m) (suc m) (omega arith)) (omega arith) in
     let e = suc-mul m (2 + not_both_count l) in
-    omega arith
-
-pub field-total : (l n : ℕ) (d : Domain) → d.least ≤ n → 0 < n → total n (place_count l n d) + 1 ≡ n * (2 + not_both_count l + (l - ones l d.members)) + d.least
-field-total l n d h k =
-    let x = field-parts l n d h in
-    let y = free_total l n k in
-    let e = mul-add n (2 + not_both_count l) (l - ones l d.members) in
     omega arith

@@ -12,7 +12,7 @@ use Rattle.model.specs.Sheet as sheet
 use Rattle.model.specs.Sheet.{Symbol, Sheet, limit, constraint, template}
 use Rattle.model.specs.Range.{SymbolIn, WellFormed}
 use Rattle.model.specs.Cells.{Cell, letter, place, symbol_cells, cells}
-use Rattle.formula.specs.Clause.{K, Literal, is, isnt, Term, known, unknown, yes, no, holds, lacks, is_blank, not_blank, only, ClauseId, SomeValue, NotBoth, BlankTail, Excluded, Start, Left, Right, Both, Match, End, Zero, Add, Bound, terms, literal_of, literals, blank, fields, cell, left_cells, right_cells}
+use Rattle.formula.specs.Clause.{K, Literal, is, isnt, Term, known, unknown, yes, no, holds, lacks, is_blank, not_blank, only, ClauseId, SomeValue, NotBoth, BlankTail, Start, Left, Right, Both, Match, End, Zero, Add, Bound, terms, literal_of, literals, blank, fields, cell, left_cells, right_cells}
 use Rattle.formula.specs.Numbering.{PlaceIn, VariableIn}
 use Rattle.formula.specs.Count.{IdIn}
 use Rattle.model.proofs.Lists.{weaken, at, map_in, each_in}
@@ -81,7 +81,6 @@ module _ (s : Sheet) (ok : WellFormed s) where
       (below_in (λ a. VariableIn s (K f c a)) (suc (blank s)) (λ a l. (h, omega arith)))
   terms_in (NotBoth f c a b) h = let l = h.1 in let m = h.2 in ((h.0, omega arith), ((h.0, m), tt))
   terms_in (BlankTail f c) h = ((h.0, omega arith), (((h.0.0, h.1), omega arith), tt))
-  terms_in (Excluded f c a) h = (h, tt)
   terms_in (Start p) h = ((h, omega arith, omega arith), tt)
   terms_in (Left p i j) h =
       let l = h.0 in

@@ -2,7 +2,7 @@
 use Rattle.std.specs.Prelude.{Bool, true, false, not, ◌&&◌, ◌||◌, List, [], ◌∷◌, ◌++◌, map, ℕ, zero, suc, ◌+◌, ◌-◌, ◌*◌, ltb, eqb, ℤ, pos, negsuc, nat_abs, ◌+ℤ◌, ◌*ℤ◌, length, get_or}
 use Rattle.std.specs.Int.Signed.{lt_z}
 use Rattle.model.specs.Lists.{each, from, up_to, any, when, keep}
-use Rattle.model.specs.Sheet.{Constraint, Domain, has_bit, Sheet, limit, domain, equation, constraint, coefficient}
+use Rattle.model.specs.Sheet.{Constraint, Sheet, limit, equation, constraint, coefficient}
 use Rattle.model.specs.Cells.{Cell, letter, place, cells}
 
 -- "K(f,c,a): place c of field f holds letter a, a = L meaning blank". "S(p,i,j): location (i,j) of pair p". "T(r,k,s): under rule r the
@@ -75,7 +75,6 @@ pub data ClauseId : Type 0 where
   SomeValue : ℕ → ℕ → ClauseId
   NotBoth : ℕ → ℕ → ℕ → ℕ → ClauseId
   BlankTail : ℕ → ℕ → ClauseId
-  Excluded : ℕ → ℕ → ℕ → ClauseId
   Start : ℕ → ClauseId
   Left : ℕ → ℕ → ℕ → ClauseId
   Right : ℕ → ℕ → ℕ → ClauseId
@@ -94,8 +93,6 @@ terms s (SomeValue f c) = map (λ a. yes (K f c a)) (up_to (suc (blank s)))
 terms s (NotBoth f c a b) = no (K f c a) ∷ no (K f c b) ∷ []
 -- "not K(f,c,L) or K(f,c+1,L)"
 terms s (BlankTail f c) = no (K f c (blank s)) ∷ yes (K f (suc c) (blank s)) ∷ []
--- document 02, No. 7: "one unit clause against each letter not admitted", "one against blank"
-terms s (Excluded f c a) = no (K f c a) ∷ []
 -- "S(p,0,0)"
 terms s (Start p) = yes (S p 0 0) ∷ []
 -- "B (i<m): not S(i,j), u not blank, S(i+1,j)."
@@ -175,24 +172,11 @@ sums s r k = map (λ n. least s r k +ℤ pos n) (up_to (suc (spread s r k)))
 abbrev pub not_both_ids : Sheet → ℕ → ℕ → ℕ → List ClauseId
 not_both_ids s f c a = map (NotBoth f c a) (from (suc a) (blank s - a))
 
--- Document 02, No. 7: "one unit clause against each letter not admitted, in letter order, .. and then, if c is below the least length, one against blank": against
--- which of l letters, by the members of a field's domain, and against which values at place c.
-abbrev pub not_admitted : ℕ → ℕ → List ℕ
-not_admitted l members = keep (λ a. not (has_bit members a)) (up_to l)
-
-unfoldable pub excluded : ℕ → Domain → ℕ → List ℕ
-excluded l d c = not_admitted l d.members ++ when (ltb c d.least) (l ∷ [])
-
-unfoldable pub excluded_ids : Sheet → ℕ → ℕ → List ClauseId
-excluded_ids s f c = map (Excluded f c) (excluded (blank s) (domain s f) c)
-
--- "The clauses of each f, c are followed by" these.
 unfoldable pub place_ids : Sheet → ℕ → ℕ → List ClauseId
 place_ids s f c =
     (SomeValue f c ∷ [])
     ++ (each (up_to (suc (blank s))) (not_both_ids s f c)
-    ++ (when (ltb (suc c) (limit s f)) (BlankTail f c ∷ [])
-    ++ excluded_ids s f c))
+    ++ when (ltb (suc c) (limit s f)) (BlankTail f c ∷ []))
 
 -- "B (i<m)", "C (j<n)", "D (both)", "E (both), each letter a", "F: if i=m, j<n ..; if j=n, i<m .."
 unfoldable pub location_ids : Sheet → ℕ → ℕ → ℕ → ℕ → ℕ → List ClauseId

@@ -4,8 +4,8 @@
 use Rattle.std.specs.Prelude.{List, [], ◌∷◌, ◌++◌, map, ℕ, suc, ◌+◌, ◌-◌, ◌*◌, ◌<◌, ◌≤◌, ltb, eqb, ℤ, pos, negsuc, ◌-ℤ◌, length}
 use Rattle.std.specs.Int.Signed.{lt_z}
 use Rattle.model.specs.Lists.{pick, from, up_to, keep, total}
-use Rattle.model.specs.Sheet.{Constraint, Domain, ones, Sheet, limit, domain, constraint}
-use Rattle.formula.specs.Clause.{ClauseId, SomeValue, NotBoth, BlankTail, Excluded, Start, Left, Right, Both, Match, End, Zero, Add, Bound, least, spread, sums, blank, fields, left_cells, right_cells}
+use Rattle.model.specs.Sheet.{Constraint, Sheet, limit, constraint}
+use Rattle.formula.specs.Clause.{ClauseId, SomeValue, NotBoth, BlankTail, Start, Left, Right, Both, Match, End, Zero, Add, Bound, least, spread, sums, blank, fields, left_cells, right_cells}
 use Rattle.formula.specs.Kind.{Side, used, at_letter, at_field, side, kind, kind_count, locations_of, ticked}
 use Rattle.formula.specs.Numbering.{PlaceIn, LocationIn, SumIn, k_size, s_size, t_size}
 
@@ -14,7 +14,6 @@ abbrev pub IdIn : Sheet → ClauseId → Type 0
 IdIn s (SomeValue f c) = PlaceIn s f c
 IdIn s (NotBoth f c a b) = PlaceIn s f c × (a < b) × (b ≤ blank s)
 IdIn s (BlankTail f c) = PlaceIn s f c × (suc c < limit s f)
-IdIn s (Excluded f c a) = PlaceIn s f c × (a ≤ blank s)
 IdIn s (Start p) = p < length s.equations
 IdIn s (Left p i j) = LocationIn s p i j × (i < length (left_cells s p))
 IdIn s (Right p i j) = LocationIn s p i j × (j < length (right_cells s p))
@@ -41,19 +40,15 @@ standing l p i j at_field at_field = Left p i j ∷ Right p i j ∷ Both p i j �
 abbrev pub location_count : ℕ → Side → Side → ℕ
 location_count l u v = kind_count l (kind u v)
 
--- Of a place of a field: the pairs of two values; the values that a domain excludes at place c, so that "their count uses the number of letters a kind admits"; all of
--- place c of a field with limit n; of field f.
+-- Of a place of a field: the pairs of two values, and all of place c of a field with limit n; of field f.
 abbrev pub not_both_count : ℕ → ℕ
 not_both_count l = total (suc l) (λ a. l - a)
 
-abbrev pub excluded_count : ℕ → Domain → ℕ → ℕ
-excluded_count l d c = (l - ones l d.members) + pick (ltb c d.least) 1 0
-
-abbrev pub place_count : ℕ → ℕ → Domain → ℕ → ℕ
-place_count l n d c = 1 + (not_both_count l + (pick (ltb (suc c) n) 1 0 + excluded_count l d c))
+abbrev pub place_count : ℕ → ℕ → ℕ → ℕ
+place_count l n c = 1 + (not_both_count l + pick (ltb (suc c) n) 1 0)
 
 abbrev pub field_count : Sheet → ℕ → ℕ
-field_count s f = total (limit s f) (place_count (blank s) (limit s f) (domain s f))
+field_count s f = total (limit s f) (place_count (blank s) (limit s f))
 
 -- Of a location and a row of locations (all j at one i); of equation p.
 abbrev pub location_size : Sheet → ℕ → ℕ → ℕ → ℕ
@@ -96,13 +91,11 @@ s_clauses s = total (length s.equations) (equation_count s)
 unfoldable pub clause_count : Sheet → ℕ
 clause_count s = k_clauses s + (s_clauses s + total (length s.constraints) (constraint_count s))
 
--- C as it is added up by hand: the places of all fields, and for each field the letters that are not admitted at each of its places, and blank at as many
--- places as its least length; for each equation 1 for S(p,0,0), and its locations by their kinds; for each constraint 1
+-- C as it is added up by hand: the places of all fields; for each equation 1 for S(p,0,0), and its locations by their kinds; for each constraint 1
 -- for T(r,0,0), its steps, which are as many as sums times lengths, and its final sums above the limit.
 abbrev pub added_up : Sheet → ℕ
 added_up s =
-    total (fields s) (λ f. total (limit s f) (λ c. 1 + (not_both_count (blank s) + pick (ltb (suc c) (limit s f)) 1 0))
-    + (limit s f * (blank s - ones (blank s) (domain s f).members) + (domain s f).least))
+    total (fields s) (λ f. total (limit s f) (place_count (blank s) (limit s f)))
     + (total (length s.equations) (λ p. 1 + ticked (locations_of s p) (kind_count (blank s)))
     + total (length s.constraints) (λ r. 1
     + (total (fields s) (λ k. length (sums s (constraint s r) k) * suc (limit s k))
@@ -110,7 +103,7 @@ added_up s =
 
 -- The clauses before those of place c of field f, of equation p, of constraint r.
 abbrev pub place_start : Sheet → ℕ → ℕ → ℕ
-place_start s f c = total f (field_count s) + total c (place_count (blank s) (limit s f) (domain s f))
+place_start s f c = total f (field_count s) + total c (place_count (blank s) (limit s f))
 
 abbrev pub equation_start : Sheet → ℕ → ℕ
 equation_start s p = k_clauses s + total p (equation_count s)

@@ -53,9 +53,9 @@ file s = each (up_to (suc (length (ids s)))) (line s)
 unfoldable pub file_size : Sheet → ℕ
 file_size s = total (suc (length (ids s))) (λ n. length (line s n))
 
--- The greatest size of a file: at most 48,032 clauses and line 0, each of at most 38 bytes.
+-- The greatest size of a file: at most 47,600 clauses and line 0, each of at most 38 bytes.
 abbrev pub most_file : ℕ
-most_file = 48033 * 38
+most_file = 47601 * 38
 
 -- The numbers that a line's bytes list, each up to the space or the line end after it: `minus` says whether a minus was met since the
 -- last of these, n is the value of the digits since then.

@@ -1,5 +1,5 @@
-// What a substitution comes to on an accepted sheet: it solves it, since every equation's two words are the same, every constraint holds and every field's text
-// keeps its domain; or the first cause why it does not.
+// What a substitution comes to on an accepted sheet: it solves it, since every equation's two words are the same and every constraint holds; or the first cause why
+// it does not.
 ghost use Rattle.std.specs.Prelude.{◌≡◌, ◌<◌, length};
 ghost use Rattle.model.specs.Sheet.{Accepted, sheet_of, equation, constraint};
 ghost use Rattle.model.specs.Word.{weight};
@@ -10,18 +10,15 @@ ghost use Rattle.judge.specs.Asks.{many, holds_at, hold_from};
 ghost use Rattle.judge.specs.Answer.{meant};
 
 use fields::Substitution;
-use keeping::field_keeps;
 use mismatch::{Mismatch, compare_sides};
 use scan::wide;
 
-// What a substitution comes to: it solves the sheet; or the first equation whose two words differ; or the first constraint that does not hold; or
-// the first field whose text is outside its domain.
+// What a substitution comes to: it solves the sheet; or the first equation whose two words differ; or the first constraint that does not hold.
 #[derive(Drop)]
 pub enum Judgement {
     Solution,
     Differs(usize, Mismatch),
     Breaks(usize),
-    Outside(usize),
 }
 
 // Whether both templates of equation p spell the same word: nothing is left over.
@@ -61,7 +58,6 @@ fn constraint_holds(sheet: &[u8], r: usize, g: Substitution) -> bool
 enum Kind {
     Equations,
     Constraints,
-    Domains,
 }
 
 // How many there are of a kind.
@@ -73,7 +69,6 @@ fn count(sheet: &[u8], kind: Kind) -> usize
     match kind {
         Kind::Equations => wide(counts.equations),
         Kind::Constraints => wide(counts.constraints),
-        Kind::Domains => wide(counts.fields),
     }
 }
 
@@ -85,7 +80,6 @@ fn holds(sheet: &[u8], kind: Kind, i: usize, g: Substitution) -> bool
     match kind {
         Kind::Equations => equation_holds(sheet, i, g),
         Kind::Constraints => constraint_holds(sheet, i, g),
-        Kind::Domains => field_keeps(sheet, i, g),
     }
 }
 
@@ -118,10 +112,6 @@ pub fn judge(sheet: &[u8], g: Substitution) -> Judgement
     if r < count(sheet, Kind::Constraints) {
         return Judgement::Breaks(r);
     }
-    let f = hold(sheet, Kind::Domains, g);
-    if f < count(sheet, Kind::Domains) {
-        return Judgement::Outside(f);
-    }
     Judgement::Solution
 }
 
@@ -134,6 +124,5 @@ pub fn solves(sheet: &[u8], g: Substitution) -> bool
         Judgement::Solution => true,
         Judgement::Differs(_, _) => false,
         Judgement::Breaks(_) => false,
-        Judgement::Outside(_) => false,
     }
 }

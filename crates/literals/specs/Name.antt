@@ -5,14 +5,13 @@ use Rattle.formula.specs.Clause as model
 use Rattle.formula.specs.Numbering.{clause}
 use Rattle.formula.specs.Dimacs.{clause_line}
 use Rattle.literals.specs.declared.ClauseId.{ClauseId}
-use Rattle.literals.specs.declared.ClauseId.TheVariants.{SomeValue, NotBoth, BlankTail, Excluded, Start, Left, Right, Both, Match, End, Zero, Add, Bound}
+use Rattle.literals.specs.declared.ClauseId.TheVariants.{SomeValue, NotBoth, BlankTail, Start, Left, Right, Both, Match, End, Zero, Add, Bound}
 
 -- the model's name
 abbrev pub name_of : ClauseId → model.ClauseId
 name_of (SomeValue f c) = model.SomeValue f c
 name_of (NotBoth f c a b) = model.NotBoth f c a b
 name_of (BlankTail f c) = model.BlankTail f c
-name_of (Excluded f c a) = model.Excluded f c a
 name_of (Start p) = model.Start p
 name_of (Left p i j) = model.Left p i j
 name_of (Right p i j) = model.Right p i j

@@ -19,7 +19,6 @@ pub enum ClauseId {
     SomeValue(usize, usize),
     NotBoth(usize, usize, usize, usize),
     BlankTail(usize, usize),
-    Excluded(usize, usize, usize),
     Start(usize),
     Left(usize, usize, usize),
     Right(usize, usize, usize),
@@ -66,14 +65,6 @@ fn blank_tail(sheet: &[u8], f: usize, c: usize) -> [usize; MOST_LITERALS]
     let here = place_code(sheet, f, c, letters, IS_NOT);
     let next = place_code(sheet, f, c + 1, letters, IS);
     [here, next, 0, 0, 0, 0, 0, 0, 0]
-}
-
-// Not a value that the field's domain excludes at a place.
-fn excluded(sheet: &[u8], f: usize, c: usize, a: usize) -> [usize; MOST_LITERALS]
-    requires { Admitted sheet.now × IdIn (sheet_of sheet.now) (model.Excluded f c a) }
-    ensures { result ≡ nine (sheet_of sheet.now) (model.Excluded f c a) }
-{
-    [place_code(sheet, f, c, a, IS_NOT), 0, 0, 0, 0, 0, 0, 0, 0]
 }
 
 // The first location is reached.
@@ -161,7 +152,6 @@ pub fn codes(sheet: &[u8], id: ClauseId) -> [usize; MOST_LITERALS]
         ClauseId::SomeValue(f, c) => some_value(sheet, f, c),
         ClauseId::NotBoth(f, c, a, b) => not_both(sheet, f, c, a, b),
         ClauseId::BlankTail(f, c) => blank_tail(sheet, f, c),
-        ClauseId::Excluded(f, c, a) => excluded(sheet, f, c, a),
         ClauseId::Start(p) => start(sheet, p),
         ClauseId::Left(p, i, j) => moves::left(sheet, p, i, j),
         ClauseId::Right(p, i, j) => moves::right(sheet, p, i, j),

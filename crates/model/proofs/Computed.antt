@@ -1,11 +1,11 @@
--- Reading, computed. Sheets read in full, of both versions, with parts that differ from each other: what stands where. And damaged sheets,
+-- Reading, computed. Two sheets read in full, the second with parts that differ from each other: what stands where. And damaged sheets,
 -- most with two faults at once, with the refusal that is given: the order of the refusals. Assumes nothing.
 use mathlib.Core.Path.{◌≡◌, refl}
 use mathlib.Core.List.{List, [], ◌∷◌, ◌++◌, map}
 use Prim.Native.Nat.{ℕ}
 use Rattle.model.specs.Lists.{starts_with}
 use lib.IntN.{pos, negsuc}
-use Rattle.model.specs.Sheet.{letter, field, mark, row, times, a_domain, the_domains, domains_of, sides, an_equation, a_constraint, walk, width, signed, opening, accepted, refused, read}
+use Rattle.model.specs.Sheet.{letter, field, mark, row, times, sides, an_equation, a_constraint, walk, width, signed, opening, accepted, refused, read}
 
 -- a sheet of version 1 from its four counts on
 abbrev pub sheet : ℕ → ℕ → ℕ → ℕ → List ℕ → List ℕ
@@ -16,8 +16,8 @@ abbrev pub P : List ℕ
 P = sheet 1 1 1 0 (65 ∷ 1 ∷ 1 ∷ 1 ∷ 128 ∷ 0 ∷ [])
 
 pub read_P : read P ≡ accepted (record
-    { version = 1; letters = 65 ∷ []; limits = 1 ∷ []; domains = record { least = 0; members = 1 } ∷ []; equations = record { left = field 0 ∷ []; right = letter 0 ∷ [] } ∷ []; constraints = [] })
-unfolding starts_with row times a_domain the_domains domains_of sides an_equation a_constraint walk width signed opening read
+    { letters = 65 ∷ []; limits = 1 ∷ []; equations = record { left = field 0 ∷ []; right = letter 0 ∷ [] } ∷ []; constraints = [] })
+unfolding starts_with row times sides an_equation a_constraint walk width signed opening read
 read_P = refl
 
 -- two letters, two fields, two equations, two constraints
@@ -33,10 +33,8 @@ parts =
     ∷ [])
 
 pub read_in_full : read parts ≡ accepted (record {
-  version = 1;
   letters = 65 ∷ 66 ∷ [];
   limits = 2 ∷ 1 ∷ [];
-  domains = record { least = 0; members = 3 } ∷ record { least = 0; members = 3 } ∷ [];
   equations =
       record { left = field 0 ∷ letter 0 ∷ field 1 ∷ []; right = letter 1 ∷ [] }
       ∷ record { left = []; right = field 1 ∷ [] }
@@ -46,41 +44,8 @@ pub read_in_full : read parts ≡ accepted (record {
       ∷ record { coefficients = pos 0 ∷ pos 4 ∷ []; most = pos 258 }
       ∷ [];
 })
-unfolding starts_with row times a_domain the_domains domains_of sides an_equation a_constraint walk width signed opening read
+unfolding starts_with row times sides an_equation a_constraint walk width signed opening read
 read_in_full = refl
-
--- the same with domains: two bytes for each field after all limits; the first field has at least one B, and the second is empty or A
-abbrev pub sheet2 : ℕ → ℕ → ℕ → ℕ → List ℕ → List ℕ
-sheet2 l v e r xs = mark ++ (0 ∷ 2 ∷ l ∷ v ∷ e ∷ r ∷ xs)
-
-abbrev pub parts2 : List ℕ
-parts2 =
-    sheet2 2 2 2 2
-    (65 ∷ 66
-    ∷ 2 ∷ 1
-    ∷ 1 ∷ 2 ∷ 0 ∷ 1
-    ∷ 3 ∷ 1 ∷ 128 ∷ 0 ∷ 129 ∷ 1
-    ∷ 0 ∷ 1 ∷ 129
-    ∷ 252 ∷ 3 ∷ 255 ∷ 254
-    ∷ 0 ∷ 4 ∷ 1 ∷ 2
-    ∷ [])
-
-pub read-domains : read parts2 ≡ accepted (record {
-  version = 2;
-  letters = 65 ∷ 66 ∷ [];
-  limits = 2 ∷ 1 ∷ [];
-  domains = record { least = 1; members = 2 } ∷ record { least = 0; members = 1 } ∷ [];
-  equations =
-      record { left = field 0 ∷ letter 0 ∷ field 1 ∷ []; right = letter 1 ∷ [] }
-      ∷ record { left = []; right = field 1 ∷ [] }
-      ∷ [];
-  constraints =
-      record { coefficients = negsuc 3 ∷ pos 3 ∷ []; most = negsuc 1 }
-      ∷ record { coefficients = pos 0 ∷ pos 4 ∷ []; most = pos 258 }
-      ∷ [];
-})
-unfolding starts_with row times a_domain the_domains domains_of sides an_equation a_constraint walk width signed opening read
-read-domains = refl
 
 -- a damaged sheet and its first refusal
 pub record Case : Type 0 where
@@ -94,13 +59,9 @@ infix 5 ◌gives◌
 abbrev damaged : List Case
 damaged =
     -- the header: each fault before the next
-    (84 ∷ 80 ∷ 77 ∷ 0 ∷ 3 ∷ [] gives 1)
-    ∷ (84 ∷ 80 ∷ 77 ∷ 0 ∷ 3 ∷ 1 ∷ 0 ∷ 1 ∷ 0 ∷ [] gives 2)
+    (84 ∷ 80 ∷ 77 ∷ 0 ∷ 2 ∷ [] gives 1)
+    ∷ (84 ∷ 80 ∷ 77 ∷ 0 ∷ 2 ∷ 1 ∷ 0 ∷ 1 ∷ 0 ∷ [] gives 2)
     ∷ (84 ∷ 80 ∷ 76 ∷ 1 ∷ 1 ∷ 0 ∷ 0 ∷ 1 ∷ 0 ∷ [] gives 3)
-    ∷ (84 ∷ 80 ∷ 76 ∷ 0 ∷ 0 ∷ 0 ∷ 0 ∷ 1 ∷ 0 ∷ [] gives 3)
-    ∷ (84 ∷ 80 ∷ 76 ∷ 0 ∷ 3 ∷ 0 ∷ 0 ∷ 1 ∷ 0 ∷ [] gives 3)
-    ∷ (84 ∷ 80 ∷ 76 ∷ 2 ∷ 0 ∷ 0 ∷ 0 ∷ 1 ∷ 0 ∷ [] gives 3)
-    ∷ (sheet2 9 7 1 0 [] gives 4)
     ∷ (sheet 9 7 1 0 [] gives 4)
     ∷ (sheet 1 7 0 0 [] gives 5)
     ∷ (sheet 1 0 5 5 [] gives 6)
@@ -137,33 +98,8 @@ damaged =
     -- a coefficient, and bytes left over; then those alone, on sheet P
     ∷ (sheet 1 1 1 1 (65 ∷ 1 ∷ 0 ∷ 0 ∷ 5 ∷ 0 ∷ 0 ∷ 0 ∷ []) gives 15)
     ∷ (sheet 1 1 1 0 (65 ∷ 1 ∷ 1 ∷ 1 ∷ 128 ∷ 0 ∷ 0 ∷ []) gives 9)
-    -- version 2: a limit before every least length; a least length, and the set of the same field, and the least length of the next; a set, and a least length
-    ∷ (sheet2 2 2 1 0 (65 ∷ 66 ∷ 1 ∷ 9 ∷ 2 ∷ 4 ∷ []) gives 11)
-    ∷ (sheet2 2 2 1 0 (65 ∷ 66 ∷ 1 ∷ 8 ∷ 2 ∷ 4 ∷ 9 ∷ 4 ∷ []) gives 46)
-    ∷ (sheet2 2 2 1 0 (65 ∷ 66 ∷ 1 ∷ 8 ∷ 1 ∷ 4 ∷ 9 ∷ 4 ∷ []) gives 47)
-    ∷ (sheet2 2 2 1 0 (65 ∷ 66 ∷ 1 ∷ 8 ∷ 1 ∷ 3 ∷ 9 ∷ 4 ∷ []) gives 46)
-    ∷ (sheet2 2 2 1 0 (65 ∷ 66 ∷ 1 ∷ 8 ∷ 1 ∷ 3 ∷ 8 ∷ 4 ∷ []) gives 47)
-    -- a byte of them that is missing, and one that is out of range before it
-    ∷ (sheet2 2 1 1 0 (65 ∷ 66 ∷ 1 ∷ []) gives 8)
-    ∷ (sheet2 2 1 1 0 (65 ∷ 66 ∷ 1 ∷ 2 ∷ []) gives 46)
-    ∷ (sheet2 2 1 1 0 (65 ∷ 66 ∷ 1 ∷ 1 ∷ []) gives 8)
-    -- a set, and a symbol count; a symbol count behind an empty set and a least length that is its limit
-    ∷ (sheet2 2 1 1 0 (65 ∷ 66 ∷ 1 ∷ 1 ∷ 255 ∷ 13 ∷ 0 ∷ []) gives 47)
-    ∷ (sheet2 2 1 1 0 (65 ∷ 66 ∷ 1 ∷ 1 ∷ 0 ∷ 13 ∷ 0 ∷ []) gives 12)
-    ∷ (sheet2 2 1 1 0 (65 ∷ 66 ∷ 1 ∷ 2 ∷ 0 ∷ 13 ∷ 0 ∷ []) gives 46)
-    ∷ (sheet2 2 1 1 0 (65 ∷ 66 ∷ 1 ∷ 1 ∷ 3 ∷ 1 ∷ 0 ∷ 2 ∷ []) gives 13)
-    -- a letter, and a least length; a least length of a field of limit 0; the highest bit, of seven letters and of eight
-    ∷ (sheet2 2 1 1 0 (66 ∷ 65 ∷ 1 ∷ 2 ∷ 3 ∷ 0 ∷ 0 ∷ []) gives 10)
-    ∷ (sheet2 2 1 1 0 (65 ∷ 66 ∷ 0 ∷ 1 ∷ 3 ∷ 0 ∷ 0 ∷ []) gives 46)
-    ∷ (sheet2 7 1 1 0 (65 ∷ 66 ∷ 67 ∷ 68 ∷ 69 ∷ 70 ∷ 71 ∷ 1 ∷ 0 ∷ 128 ∷ 13 ∷ 0 ∷ []) gives 47)
-    ∷ (sheet2 8 1 1 0 (65 ∷ 66 ∷ 67 ∷ 68 ∷ 69 ∷ 70 ∷ 71 ∷ 72 ∷ 1 ∷ 0 ∷ 255 ∷ 13 ∷ 0 ∷ []) gives 12)
-    -- no fields: the pairs follow; version 1 has no such bytes, and version 2 with none of them takes the pair's for them
-    ∷ (sheet2 1 0 1 0 (65 ∷ 13 ∷ 0 ∷ []) gives 12)
-    ∷ (sheet 2 1 1 0 (65 ∷ 66 ∷ 1 ∷ 0 ∷ 3 ∷ 0 ∷ 0 ∷ []) gives 8)
-    ∷ (sheet2 1 1 1 0 (65 ∷ 1 ∷ 1 ∷ 1 ∷ 128 ∷ 0 ∷ []) gives 12)
-    ∷ (sheet2 1 1 1 0 (65 ∷ 1 ∷ 1 ∷ 1 ∷ 1 ∷ 1 ∷ 128 ∷ 0 ∷ 0 ∷ []) gives 9)
     ∷ []
 
 pub first_refusals : map (λ (c : Case). read c.bytes) damaged ≡ map (λ (c : Case). refused c.first) damaged
-unfolding starts_with row times a_domain the_domains domains_of sides an_equation a_constraint walk width signed opening read
+unfolding starts_with row times sides an_equation a_constraint walk width signed opening read
 first_refusals = refl

@@ -3,18 +3,16 @@ use mathlib.Core.Path.{◌≡◌, refl}
 use mathlib.Core.List.{List, [], ◌∷◌, map}
 use Prim.Native.Nat.{ℕ}
 use lib.IntN.{pos, neg_ℤ}
-use Rattle.model.specs.Lists.{each, from, all, leading}
-use Rattle.model.specs.Sheet.{Sheet, has_bit, unrestricted, letter, field}
-use Rattle.model.specs.Word.{Substitution, spell, weight, same_letter, same_word, equation_holds, constraint_holds, field_keeps}
-use Rattle.model.specs.Mismatch.{agreeing, rest_side, rest_word, Judgement, solution, differs, breaks, outside, judged}
+use Rattle.model.specs.Lists.{each, leading}
+use Rattle.model.specs.Sheet.{Sheet, letter, field}
+use Rattle.model.specs.Word.{Substitution, spell, weight, same_letter, same_word, equation_holds, constraint_holds}
+use Rattle.model.specs.Mismatch.{agreeing, rest_side, rest_word, Judgement, solution, differs, breaks, judged}
 
 -- over a, b, c and d, numbered 0 to 3, the fields X, Y of limit 3; X against aY, and XY against YX; the rules X + Y at most 4, and X - Y at most 0
 abbrev two_pairs : Sheet
 two_pairs = record {
-  version = 1;
   letters = 97 ∷ 98 ∷ 99 ∷ 100 ∷ [];
   limits = 3 ∷ 3 ∷ [];
-  domains = unrestricted 4 ∷ unrestricted 4 ∷ [];
   equations =
       record { left = field 0 ∷ []; right = letter 0 ∷ field 1 ∷ [] }
       ∷ record { left = field 0 ∷ field 1 ∷ []; right = field 1 ∷ field 0 ∷ [] }
@@ -84,43 +82,13 @@ substitutions =
     ∷ []
 
 pub judged-substitutions : map (λ (j : Judged). j.texts comes-to judged two_pairs j.texts) substitutions ≡ substitutions
-unfolding each from all leading spell weight same_letter same_word equation_holds constraint_holds has_bit field_keeps agreeing judged
+unfolding each leading spell weight same_letter same_word equation_holds constraint_holds agreeing judged
 judged-substitutions = refl
 
 -- without rules: X=aa, Y=a is a solution
 abbrev no_rules_lem : Sheet
-no_rules_lem = record { version = 1; letters = two_pairs.letters; limits = two_pairs.limits; domains = two_pairs.domains; equations = two_pairs.equations; constraints = [] }
+no_rules_lem = record { letters = two_pairs.letters; limits = two_pairs.limits; equations = two_pairs.equations; constraints = [] }
 
 pub judged-solution_computed : judged no_rules_lem ((0 ∷ 0 ∷ []) ∷ (0 ∷ []) ∷ []) ≡ solution
-unfolding each from all leading spell weight same_letter same_word equation_holds constraint_holds has_bit field_keeps agreeing judged
+unfolding each leading spell weight same_letter same_word equation_holds constraint_holds agreeing judged
 judged-solution_computed = refl
-
--- with domains: X at least 2 long, of a and c (1 + 4), Y at least 1 long, of a, b and d (1 + 2 + 8); Z, which nothing asks for, empty
-abbrev with_domains : Sheet
-with_domains = record {
-  version = 2;
-  letters = two_pairs.letters;
-  limits = 3 ∷ 3 ∷ 1 ∷ [];
-  domains = record { least = 2; members = 5 } ∷ record { least = 1; members = 11 } ∷ record { least = 0; members = 0 } ∷ [];
-  equations = record { left = field 0 ∷ []; right = letter 0 ∷ field 1 ∷ [] } ∷ [];
-  constraints = record { coefficients = pos 1 ∷ pos 1 ∷ pos 0 ∷ []; most = pos 4 } ∷ [];
-}
-
-abbrev of_domains_lem : List Judged
-of_domains_lem =
-    -- X=aa, Y=a: a solution; with a letter in Z: Z is told
-    ((0 ∷ 0 ∷ []) ∷ (0 ∷ []) ∷ [] ∷ [] comes-to solution)
-    ∷ ((0 ∷ 0 ∷ []) ∷ (0 ∷ []) ∷ (0 ∷ []) ∷ [] comes-to outside 2)
-    -- X=a, Y empty: both are too short, and the first is told
-    ∷ ((0 ∷ []) ∷ [] ∷ [] ∷ [] comes-to outside 0)
-    -- X=ac, Y=c: X keeps its domain, and c is not in that of Y; X=ab, Y=b: b is not in that of X
-    ∷ ((0 ∷ 2 ∷ []) ∷ (2 ∷ []) ∷ [] ∷ [] comes-to outside 1)
-    ∷ ((0 ∷ 1 ∷ []) ∷ (1 ∷ []) ∷ [] ∷ [] comes-to outside 0)
-    -- a broken rule and a pair that differs come before: X=abb, Y=bb, and X empty
-    ∷ ((0 ∷ 1 ∷ 1 ∷ []) ∷ (1 ∷ 1 ∷ []) ∷ [] ∷ [] comes-to breaks 0)
-    ∷ ([] ∷ [] ∷ [] ∷ [] comes-to differs 0 0 1 1)
-    ∷ []
-
-pub judged-domains : map (λ (j : Judged). j.texts comes-to judged with_domains j.texts) of_domains_lem ≡ of_domains_lem
-unfolding each from all leading spell weight same_letter same_word equation_holds constraint_holds has_bit field_keeps agreeing judged
-judged-domains = refl

@@ -7,8 +7,8 @@ use Prim.Native.Nat.{ℕ}
 use lib.Dec.{leb, ltb}
 use lib.ListN.{length}
 use Rattle.model.specs.Lists.{starts_with, same, each, from, all}
-use Rattle.model.specs.Sheet.{Sheet, has_bit, equation, row, times, a_domain, the_domains, domains_of, sides, an_equation, a_constraint, walk, width, signed, opening, read, is_accepted, sheet_in}
-use Rattle.model.specs.Word.{Substitution, letter_bytes, spell, weight, same_letter, same_word, equation_holds, constraint_holds, field_keeps, keeps, solves}
+use Rattle.model.specs.Sheet.{Sheet, equation, row, times, sides, an_equation, a_constraint, walk, width, signed, opening, read, is_accepted, sheet_in}
+use Rattle.model.specs.Word.{Substitution, letter_bytes, spell, weight, same_letter, same_word, equation_holds, constraint_holds, keeps, solves}
 use Rattle.model.specs.Solvable.{all_texts, substitutions, every_legal}
 use Rattle.model.proofs.Computed.{sheet}
 
@@ -96,5 +96,5 @@ abbrev pub passes_test : Example → Bool
 passes_test c = is_accepted (read c.bytes) && test (sheet_in (read c.bytes)) c.claim
 
 pub tests_pass : all passes_test listed ≡ true
-unfolding starts_with row times a_domain the_domains domains_of sides an_equation a_constraint walk width signed opening read each from all all_texts substitutions legal_texts same_texts_lem same spell weight same_letter same_word equation_holds constraint_holds has_bit field_keeps keeps solves
+unfolding starts_with row times sides an_equation a_constraint walk width signed opening read each from all all_texts substitutions legal_texts same_texts_lem same spell weight same_letter same_word equation_holds constraint_holds keeps solves
 tests_pass = refl

@@ -7,11 +7,11 @@ use mathlib.Core.Logic.{◌⊎◌, inl, inr}
 use Prim.Native.Nat.{ℕ}
 use lib.ListN.{length}
 use Rattle.model.specs.Lists.{starts_with, each, from, all, keep, All}
-use Rattle.model.specs.Sheet.{has_bit, Sheet, row, times, a_domain, the_domains, domains_of, sides, an_equation, a_constraint, walk, width, signed, opening, read, sheet_in}
-use Rattle.model.specs.Word.{Substitution, spell, Solves, weight, same_letter, same_word, equation_holds, constraint_holds, field_keeps, keeps, solves}
+use Rattle.model.specs.Sheet.{Sheet, row, times, sides, an_equation, a_constraint, walk, width, signed, opening, read, sheet_in}
+use Rattle.model.specs.Word.{Substitution, spell, Solves, weight, same_letter, same_word, equation_holds, constraint_holds, keeps, solves}
 use Rattle.model.specs.Solvable.{all_texts, substitutions, every_legal}
 use Rattle.model.specs.Order.{total_length, field_letters, ranks, Earlier, IsFirst, lex, earlier, earliest, earliest_of, first_solution}
-use Rattle.model.proofs.Computed.{sheet2, P, sheet}
+use Rattle.model.proofs.Computed.{P, sheet}
 use Rattle.model.proofs.Lists.{never, by_test, weaken}
 use Rattle.model.proofs.Keeping.{keep_out, keep_in}
 use Rattle.model.proofs.Words.{solves_out, solves_in}
@@ -43,17 +43,10 @@ cases =
     ∷ (sheet 1 3 1 0 (65 ∷ 2 ∷ 0 ∷ 2 ∷ 2 ∷ 3 ∷ 0 ∷ 0 ∷ 128 ∷ 128 ∷ 130 ∷ []) first (0 ∷ []) ∷ [] ∷ [] ∷ [])
     -- BA against YX: X empty and Y=BA, though X=A and Y=B have the lower letter first
     ∷ (sheet 2 2 1 0 (65 ∷ 66 ∷ 2 ∷ 2 ∷ 2 ∷ 2 ∷ 1 ∷ 0 ∷ 129 ∷ 128 ∷ []) first [] ∷ (1 ∷ 0 ∷ []) ∷ [])
-    -- the same with X at least 1 long: X=A and Y=B
-    ∷ (sheet2 2 2 1 0 (65 ∷ 66 ∷ 2 ∷ 2 ∷ 1 ∷ 3 ∷ 0 ∷ 3 ∷ 2 ∷ 2 ∷ 1 ∷ 0 ∷ 129 ∷ 128 ∷ []) first (0 ∷ []) ∷ (1 ∷ []) ∷ [])
-    -- XY against YX, X at least 1 long and of B, Y at least 1 long: X=B and Y=B, and not Y=A; Z, which nothing asks for, at least 1 long and of B: Z=B
-    ∷ (sheet2 2 3 1 0 (65 ∷ 66 ∷ 1 ∷ 1 ∷ 1 ∷ 1 ∷ 2 ∷ 1 ∷ 3 ∷ 1 ∷ 2 ∷ 2 ∷ 2 ∷ 128 ∷ 129 ∷ 129 ∷ 128 ∷ []) first (1 ∷ []) ∷ (1 ∷ []) ∷ (1 ∷ []) ∷ [])
-    -- AX against YA, X empty by its set and Y at least 1 long and of B: none; the same where the set of X has A: then Y=A is still needed, and not in its set
-    ∷ (sheet2 2 2 1 0 (65 ∷ 66 ∷ 1 ∷ 1 ∷ 0 ∷ 0 ∷ 1 ∷ 2 ∷ 2 ∷ 2 ∷ 0 ∷ 128 ∷ 129 ∷ 0 ∷ []) first [])
-    ∷ (sheet2 2 2 1 0 (65 ∷ 66 ∷ 1 ∷ 1 ∷ 0 ∷ 1 ∷ 1 ∷ 2 ∷ 2 ∷ 2 ∷ 0 ∷ 128 ∷ 129 ∷ 0 ∷ []) first [])
     ∷ []
 
 first_solutions : map (λ (c : Case). first_solution (sheet_in (read c.bytes))) cases ≡ map (λ (c : Case). c.first) cases
-unfolding starts_with row times a_domain the_domains domains_of sides an_equation a_constraint walk width signed opening read each from all keep spell weight same_letter same_word equation_holds constraint_holds has_bit field_keeps keeps solves all_texts substitutions total_length field_letters ranks lex earliest first_solution
+unfolding starts_with row times sides an_equation a_constraint walk width signed opening read each from all keep spell weight same_letter same_word equation_holds constraint_holds keeps solves all_texts substitutions total_length field_letters ranks lex earliest first_solution
 first_solutions = refl
 
 -- h does not come before g

@@ -2,30 +2,22 @@
 -- document 02's No. 5 tells them. Assumes nothing.
 use mathlib.Core.Path.{◌≡◌, refl, sym, ap, ap₂, subst, ◌∙◌}
 use mathlib.Core.Bool.{false, ◌&&◌}
-use mathlib.Core.List.{List}
 use Prim.Native.Nat.{ℕ, ◌<◌, ◌≤◌}
 use native.Mathlib.Omega.{arith}
 use lib.Dec.{ltb}
 use lib.ListN.{length}
 use borrow.Author.Tests.{ltb-true, ltb-false, lt-ltb, le-ltb}
-use Rattle.model.specs.Lists.{up_to, all}
+use Rattle.model.specs.Lists.{all}
 use Rattle.model.specs.Sheet.{Sheet, equation}
-use Rattle.model.specs.Word.{Substitution, spell, equation_holds, constraint_holds, field_keeps, solves}
-use Rattle.model.specs.Mismatch.{agreeing, rest_side, rest_word, Judgement, solution, differs, breaks, outside, is_solution, difference, first_pair, first_rule, first_field, judged}
+use Rattle.model.specs.Word.{Substitution, spell, equation_holds, constraint_holds, solves}
+use Rattle.model.specs.Mismatch.{agreeing, rest_side, rest_word, Judgement, solution, differs, breaks, is_solution, difference, first_pair, first_rule, judged}
 use Rattle.model.proofs.Lists.{never, by_test}
 use Rattle.model.proofs.Leading.{all_lead, not_all_lead}
-use Rattle.model.proofs.Keeping.{length_from}
 use Rattle.model.proofs.Words.{solves-parts}
 
 -- the cases exclude each other
-abbrev cause : Judgement → ℕ
-cause solution = 0
-cause (differs p n side rest) = 1
-cause (breaks r) = 2
-cause (outside f) = 3
-
-not_both : {P : Type 0} (i j : Judgement) → (cause i ≡ cause j → ⊥) → i ≡ j → P
-not_both i j n z = absurd (n (ap cause z))
+not_both : {P : Type 0} {p n side rest r : ℕ} → differs p n side rest ≡ breaks r → P
+not_both z = let k : ◌≡◌ {A = ℕ} 0 1 = cc in absurd (omega arith)
 
 no-solution : {P : Type 0} (j : Judgement) → is_solution j ≡ false → solution ≡ j → P
 no-solution j e z = never (sym e ∙ sym (ap is_solution z))
@@ -44,23 +36,17 @@ module _ (s : Sheet) (g : Substitution) where
     unfolding judged
     judged-breaks k = rw (le-ltb (first_pair s g) (length s.equations) h, lt-ltb (first_rule s g) (length s.constraints) k)
 
-    module _ (k : length s.constraints ≤ first_rule s g) where
-      pub judged-outside : first_field s g < length s.limits → judged s g ≡ outside (first_field s g)
-      unfolding judged
-      judged-outside i = rw (le-ltb (first_pair s g) (length s.equations) h, le-ltb (first_rule s g) (length s.constraints) k, lt-ltb (first_field s g) (length s.limits) i)
+    pub judged-solution : length s.constraints ≤ first_rule s g → judged s g ≡ solution
+    unfolding judged
+    judged-solution k = rw (le-ltb (first_pair s g) (length s.equations) h, le-ltb (first_rule s g) (length s.constraints) k)
 
-      pub judged-solution : length s.limits ≤ first_field s g → judged s g ≡ solution
-      unfolding judged
-      judged-solution i = rw (le-ltb (first_pair s g) (length s.equations) h, le-ltb (first_rule s g) (length s.constraints) k, le-ltb (first_field s g) (length s.limits) i)
-
-  -- what holds in each of the four cases holds of what it comes to
+  -- what holds in each of the three cases holds of what it comes to
   judged_by_cases : (P : Judgement → Type 0)
       → (first_pair s g < length s.equations → let p = first_pair s g in P (difference s p (spell g (equation s p).left) (spell g (equation s p).right)))
       → (length s.equations ≤ first_pair s g → first_rule s g < length s.constraints → P (breaks (first_rule s g)))
-      → (length s.equations ≤ first_pair s g → length s.constraints ≤ first_rule s g → first_field s g < length s.limits → P (outside (first_field s g)))
-      → (length s.equations ≤ first_pair s g → length s.constraints ≤ first_rule s g → length s.limits ≤ first_field s g → P solution)
+      → (length s.equations ≤ first_pair s g → length s.constraints ≤ first_rule s g → P solution)
       → P (judged s g)
-  judged_by_cases P pair rule domain none = by_test (ltb (first_pair s g) (length s.equations))
+  judged_by_cases P pair rule none = by_test (ltb (first_pair s g) (length s.equations))
       (λ t.
       let h = ltb-true (first_pair s g) (length s.equations) t in
       subst P (sym (judged-differs h)) (pair h))
@@ -72,28 +58,15 @@ module _ (s : Sheet) (g : Substitution) where
       subst P (sym (judged-breaks h k)) (rule h k))
       (λ q.
       let k = ltb-false (first_rule s g) (length s.constraints) q in
-      by_test (ltb (first_field s g) (length s.limits))
-      (λ o.
-      let i = ltb-true (first_field s g) (length s.limits) o in
-      subst P (sym (judged-outside h k i)) (domain h k i))
-      (λ o.
-      let i = ltb-false (first_field s g) (length s.limits) o in
-      subst P (sym (judged-solution h k i)) (none h k i))))
+      subst P (sym (judged-solution h k)) (none h k)))
 
   pub solves-judged : solves s g ≡ is_solution (judged s g)
-  solves-judged = solves-parts s g ∙ judged_by_cases (λ j. (all (equation_holds s g) s.equations && (all (constraint_holds s g) s.constraints && all (field_keeps s g) fields)) ≡ is_solution j)
+  solves-judged = solves-parts s g ∙ judged_by_cases (λ j. (all (equation_holds s g) s.equations && all (constraint_holds s g) s.constraints) ≡ is_solution j)
       (λ h. rw (not_all_lead (equation_holds s g) s.equations h) refl)
-      (λ h k. rw (all_lead (equation_holds s g) s.equations h, not_all_lead (constraint_holds s g) s.constraints k) refl)
-      (λ h k i. rw (all_lead (equation_holds s g) s.equations h, all_lead (constraint_holds s g) s.constraints k) (not_all_lead (field_keeps s g) fields (omega (arith, counted, i))))
-      (λ h k i. rw (all_lead (equation_holds s g) s.equations h, all_lead (constraint_holds s g) s.constraints k) (all_lead (field_keeps s g) fields (omega (arith, counted, i))))
-    where
-      fields : List ℕ
-      fields = up_to (length s.limits)
+      (λ h k. rw (all_lead (equation_holds s g) s.equations h) (not_all_lead (constraint_holds s g) s.constraints k))
+      (λ h k. rw (all_lead (equation_holds s g) s.equations h) (all_lead (constraint_holds s g) s.constraints k))
 
-      counted : length fields ≡ length s.limits
-      counted = length_from 0 (length s.limits)
-
-  -- what is told of a pair, of a rule, and of a field: the first that differs, else the first broken, else the first outside its domain
+  -- what is told of a pair, and of a rule: the first that differs, and else the first broken
   pub record PairTold (p n side rest : ℕ) : Type 0 where
     pub is_first : first_pair s g ≡ p
     pub is_pair : p < length s.equations
@@ -106,12 +79,6 @@ module _ (s : Sheet) (g : Substitution) where
     pub is_first : first_rule s g ≡ r
     pub is_rule : r < length s.constraints
 
-  pub record FieldTold (f : ℕ) : Type 0 where
-    pub pairs_hold : length s.equations ≤ first_pair s g
-    pub rules_hold : length s.constraints ≤ first_rule s g
-    pub is_first : first_field s g ≡ f
-    pub is_field : f < length s.limits
-
   module _ (p n side rest : ℕ) where
     pub told_pair : PairTold p n side rest → judged s g ≡ differs p n side rest
     told_pair t =
@@ -122,7 +89,7 @@ module _ (s : Sheet) (g : Substitution) where
         ∙ sym (ap (differs p n side) t.left_over)
 
     pub pair_told : judged s g ≡ differs p n side rest → PairTold p n side rest
-    pair_told e = judged_by_cases (λ j. j ≡ differs p n side rest → PairTold p n side rest) same_pair (λ h k z. not_both _ _ (λ q. absurd (omega arith)) z) (λ h k i z. not_both _ _ (λ q. absurd (omega arith)) z) (λ h k i. no-solution (differs p n side rest) refl) e
+    pair_told e = judged_by_cases (λ j. j ≡ differs p n side rest → PairTold p n side rest) same_pair (λ h k z. not_both (sym z)) (λ h k. no-solution (differs p n side rest) refl) e
       where
         same_pair : first_pair s g < length s.equations
             → difference s (first_pair s g) (spell g (equation s (first_pair s g)).left) (spell g (equation s (first_pair s g)).right) ≡ differs p n side rest → PairTold p n side rest
@@ -142,18 +109,6 @@ module _ (s : Sheet) (g : Substitution) where
 
     pub rule_told : judged s g ≡ breaks r → RuleTold r
     rule_told e = judged_by_cases (λ j. j ≡ breaks r → RuleTold r)
-        (λ h z. not_both _ _ (λ q. absurd (omega arith)) z)
+        (λ h z. not_both z)
         (λ h k z. let i : first_rule s g ≡ r = cc in record { pairs_hold = h; is_first = i; is_rule = omega arith })
-        (λ h k i z. not_both _ _ (λ q. absurd (omega arith)) z)
-        (λ h k i. no-solution (breaks r) refl) e
-
-  module _ (f : ℕ) where
-    pub told-field : FieldTold f → judged s g ≡ outside f
-    told-field t = judged-outside t.pairs_hold t.rules_hold (omega (arith, t.is_first, t.is_field)) ∙ ap outside t.is_first
-
-    pub field_told : judged s g ≡ outside f → FieldTold f
-    field_told e = judged_by_cases (λ j. j ≡ outside f → FieldTold f)
-        (λ h z. not_both _ _ (λ q. absurd (omega arith)) z)
-        (λ h k z. not_both _ _ (λ q. absurd (omega arith)) z)
-        (λ h k i z. let same : first_field s g ≡ f = cc in record { pairs_hold = h; rules_hold = k; is_first = same; is_field = omega arith })
-        (λ h k i. no-solution (outside f) refl) e
+        (λ h k. no-solution (breaks r) refl) e

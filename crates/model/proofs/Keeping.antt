@@ -8,8 +8,8 @@ use native.Mathlib.Numerals.{add-one}
 use native.Mathlib.Omega.{arith}
 use lib.Arith.{lt_of_le-ne}
 use lib.Dec.{ltb, eqb}
-use lib.ListN.{length, get_or, take, length-append, length-map, get_or-append}
-use lib.Seq.{take_at, get_or-append-add}
+use lib.ListN.{length, get_or, length-append, length-map, get_or-append}
+use lib.Seq.{get_or-append-add}
 use borrow.Author.Tests.{ltb-true, ltb-false, eqb-true, eqb-false}
 use Rattle.model.specs.Lists.{each, from, up_to, all, any, when, keep, total, All}
 use Rattle.model.proofs.Lists.{never, by_test, or_left, or_right, append_in, append_out, map_in, each_in, each_out, each_same, below_out, from_more, each_none, each_more, all_out, all_in}
@@ -97,11 +97,6 @@ from_join a (suc m) n =
     let e : suc m + n ≡ suc (m + n) = omega arith in
     let q : a + suc m ≡ suc a + m = omega arith in
     rw (e, q) (ap (λ z. a ∷ z) (from_join (suc a) m n))
-
-pub take_up_to : (m n : ℕ) → m ≤ n → take m (up_to n) ≡ up_to m
-take_up_to m n h =
-    let e : n ≡ m + (n - m) = omega arith in
-    ap (λ k. take m (up_to k)) e ∙ ap (take m) (from_join 0 m (n - m)) ∙ take_at (up_to m) (from (0 + m) (n - m)) m (length_from 0 m)
 
 pub from_is : (a n i : ℕ) → i < n → get_or (from a n) i 0 ≡ a + i
 unfolding from

@@ -8,11 +8,11 @@ use lib.ListN.{length}
 use Rattle.model.specs.Lists.{All, Bytes}
 use Rattle.model.specs.Sheet as sheet
 use Rattle.model.specs.Sheet.{◌then◌, Counts, opening, walk, Reading, accepted, read, counts_of, encode, is_accepted, Accepted, sheet_of}
-use Rattle.model.specs.Range.{EquationIn, DomainsIn, CountsIn, InRange}
+use Rattle.model.specs.Range.{EquationIn, CountsIn, InRange}
 use Rattle.model.proofs.Lists.{never}
 use Rattle.model.proofs.Steps.{went}
 use Rattle.model.proofs.Opening.{opening_exact}
-use Rattle.model.proofs.Reading.{walk_counts, walk-domains, walk-equations, ended-accepted, accepted-encode}
+use Rattle.model.proofs.Reading.{walk_counts, walk-equations, ended-accepted, accepted-encode}
 
 -- Accepted bytes.
 of_accepted : (b : List ℕ) (r : Reading) → read b ≡ r → is_accepted r ≡ true → read b ≡ accepted (sheet.sheet_in (read b))
@@ -35,14 +35,7 @@ accepted_counts b h =
     let g = went (opening b) walk (ended-accepted (opening b then walk) (accepted_sheet b h)) in
     subst CountsIn (sym (walk_counts g.value g.rest g.second)) (opening_exact b g.first).counts_in
 
--- so are the domains and the equations
-pub accepted-domains : (b : List ℕ) → Accepted b → DomainsIn (length (sheet_of b).letters) (sheet_of b).limits (sheet_of b).domains
-unfolding read
-accepted-domains b h =
-    let g = went (opening b) walk (ended-accepted (opening b then walk) (accepted_sheet b h)) in
-    let e = ap (λ (c : Counts). c.letter_count) (walk_counts g.value g.rest g.second) in
-    rw e (walk-domains g.value g.rest g.second)
-
+-- so are the equations
 pub accepted-equations : (b : List ℕ) → Accepted b → All (EquationIn (length (sheet_of b).letters) (sheet_of b).limits) (sheet_of b).equations
 unfolding read
 accepted-equations b h =

@@ -6,12 +6,10 @@ use mathlib.Core.List.{List, [], ◌∷◌}
 use Prim.Native.Nat.{ℕ, zero, suc, ◌+◌, ◌<◌, ◌≤◌}
 use native.Mathlib.Omega.{arith}
 use native.Mathlib.Numerals.{add-one}
-use lib.Dec.{ltb}
 use lib.ListN.{length, get_or, take, drop, drop_of_length-le}
 use lib.Seq.{drop-cons}
-use borrow.Author.Tests.{ltb-true, ltb-false}
 use Rattle.model.specs.Lists.{leading, all, All}
-use Rattle.model.proofs.Lists.{never, by_test, weaken, all_out, all_in}
+use Rattle.model.proofs.Lists.{never, by_test, weaken}
 
 module _ {A : Type 0} (p : A → Bool) where
   -- those before the first that fails pass
@@ -21,10 +19,10 @@ module _ {A : Type 0} (p : A → Bool) where
   leading_pass (x ∷ xs) = by_test (p x) (λ t. rw t (t, leading_pass xs)) (λ t. rw t tt)
 
   -- it fails
-  leading-fails : (xs : List A) (d : A) → leading p xs < length xs → p (get_or xs (leading p xs) d) ≡ false
+  leading_fails : (xs : List A) (d : A) → leading p xs < length xs → p (get_or xs (leading p xs) d) ≡ false
   unfolding leading
-  leading-fails [] d h = absurd (omega arith)
-  leading-fails (x ∷ xs) d h = by_test (p x) (λ t. rw t (leading-fails xs d (let k = rw t at h in omega arith))) (λ t. rw t t)
+  leading_fails [] d h = absurd (omega arith)
+  leading_fails (x ∷ xs) d h = by_test (p x) (λ t. rw t (leading_fails xs d (let k = rw t at h in omega arith))) (λ t. rw t t)
 
   -- all pass exactly when there is none that fails
   pub all_lead : (xs : List A) → length xs ≤ leading p xs → all p xs ≡ true
@@ -57,39 +55,14 @@ module _ {A : Type 0} (p : A → Bool) where
     unfolding leading
     leading-whole h = rw (drop_of_length-le xs h)
 
--- Whether all pass, from index i on, as code goes through them.
-module _ {A : Type 0} (p : A → Bool) (xs : List A) (i : ℕ) where
-  module _ (d : A) (h : i < length xs) where
-    pub all_next : p (get_or xs i d) ≡ true → all p (drop i xs) ≡ all p (drop (i + 1) xs)
-    unfolding all
-    all_next e = rw (add-one, drop-cons xs i d, e)
-
-    pub all-fails : p (get_or xs i d) ≡ false → all p (drop i xs) ≡ false
-    unfolding all
-    all-fails e = rw (drop-cons xs i d, e)
-
-  pub all_done : length xs ≤ i → all p (drop i xs) ≡ true
-  unfolding all
-  all_done h = rw (drop_of_length-le xs h)
-
 -- The same of what a test decides: those before the first that fails have it, and that one has not; and no other number is so.
 module _ {A : Type 0} (p : A → Bool) (P : A → Type 0) (out : (x : A) → p x ≡ true → P x) (in' : (x : A) → P x → p x ≡ true) (xs : List A) (i : ℕ) where
   pub leading_have : leading p xs ≡ i → All P (take i xs)
   leading_have e = weaken _ P (take i xs) out (rw e at (leading_pass p xs))
 
   pub leading_has_not : (d : A) → leading p xs ≡ i → i < length xs → P (get_or xs i d) → ⊥
-  leading_has_not d e h k = never (sym (rw e at (leading-fails p xs d (omega arith))) ∙ in' (get_or xs i d) k)
+  leading_has_not d e h k = never (sym (rw e at (leading_fails p xs d (omega arith))) ∙ in' (get_or xs i d) k)
 
   pub leading-first : (d : A) → i < length xs → All P (take i xs) → (P (get_or xs i d) → ⊥) → leading p xs ≡ i
   leading-first d h before lacks = leading-only p xs i d h (weaken P _ (take i xs) in' before)
       (by_test (p (get_or xs i d)) (λ t. absurd (lacks (out (get_or xs i d) t))) (λ t. t))
-
--- and all have it exactly when none comes first that has it not
-module _ {A : Type 0} (p : A → Bool) (P : A → Type 0) (out : (x : A) → p x ≡ true → P x) (in' : (x : A) → P x → p x ≡ true) (xs : List A) where
-  pub all_have : length xs ≤ leading p xs → All P xs
-  all_have h = weaken _ P xs out (all_out p xs (all_lead p xs h))
-
-  pub none-lacks : All P xs → length xs ≤ leading p xs
-  none-lacks h = by_test (ltb (leading p xs) (length xs))
-      (λ t. never (sym (not_all_lead p xs (ltb-true (leading p xs) (length xs) t)) ∙ all_in p xs (weaken P _ xs in' h)))
-      (λ t. ltb-false (leading p xs) (length xs) t)

@@ -12,8 +12,6 @@ pub mod Marks
 pub mod Signed
 pub mod Faithful
 pub mod Sections
-pub mod Bits
-pub mod Domains
 pub mod Opening
 pub mod Reading
 pub mod Known
@@ -22,7 +20,6 @@ pub mod Places
 pub mod Seams
 pub mod Writing
 pub mod Words
-pub mod Kept
 pub mod Mismatches
 pub mod Judged
 pub mod Values

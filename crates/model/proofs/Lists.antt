@@ -188,9 +188,9 @@ module _ {A : Type 0} (p : A → Bool) (xs : List A) (i : ℕ) (d : A) where
   unfolding all
   all_here h e = rw (add-one, drop-cons xs i d, e)
 
-  pub all-fails : i < length xs → p (get_or xs i d) ≡ false → all p (drop i xs) ≡ false
+  pub all_fails : i < length xs → p (get_or xs i d) ≡ false → all p (drop i xs) ≡ false
   unfolding all
-  all-fails h e = rw (drop-cons xs i d, e)
+  all_fails h e = rw (drop-cons xs i d, e)
 
   pub all_whole : length xs ≤ i → all p (drop i xs) ≡ true
   unfolding all

@@ -13,7 +13,6 @@ use Rattle.model.specs.Sheet.{got, fault, must, Counts, mark, byte, counts_at, s
 use Rattle.model.specs.Range.{CountsIn}
 use Rattle.model.proofs.Lists.{never, and_split, and_join}
 use Rattle.model.proofs.Steps.{same-got, held, longer, Within}
-use Rattle.model.proofs.Signed.{sixteen_bytes, high_byte, low_byte}
 
 pub between_in : (low high n : ℕ) → low ≤ n → n ≤ high → between low high n ≡ true
 between_in low high n h g = and_join (le-leb low n h) (le-leb n high g)
@@ -29,8 +28,6 @@ unfolding opening starts_with
 opening_reads c zs h =
     rw (
       le-leb 9 (length (header c ++ zs)) (omega arith),
-      sixteen_bytes c.version,
-      between_in 1 2 c.version h.of_version.0 h.of_version.1,
       between_in 1 8 c.letter_count h.of_letters.0 h.of_letters.1,
       between_in 0 6 c.field_count (omega arith) h.of_fields,
       between_in 1 4 c.equation_count h.of_equations.0 h.of_equations.1,
@@ -46,15 +43,16 @@ starts_with_lem (p ∷ ps) (x ∷ xs) h =
     let a = and_split (eqb x p) (starts_with ps xs) h in
     rw (eqb-true x p a.0) (ap (λ l. p ∷ l) (starts_with_lem ps xs a.1))
 
-module _ (b : List ℕ) (long : 9 ≤ length b) (marked : starts_with mark b ≡ true) (version : sixteen (byte b 3) (byte b 4) ≤ 2) where
+module _ (b : List ℕ) (long : 9 ≤ length b) (marked : starts_with mark b ≡ true) (version : sixteen (byte b 3) (byte b 4) ≡ 1) where
   next : (k : ℕ) (rest : List ℕ) → k < 9 → drop (suc k) b ≡ rest → drop k b ≡ byte b k ∷ rest
   next k rest h g = drop-cons b k 0 (omega arith) ∙ ap (λ l. byte b k ∷ l) g
 
   nine_bytes : b ≡ header (counts_at b) ++ drop 9 b
   nine_bytes =
-      let small : byte b 4 < 256 = omega arith in
+      let high : byte b 3 ≡ 0 = omega arith in
+      let low : byte b 4 ≡ 1 = omega arith in
       let tail = next 3 _ (omega arith) (next 4 _ (omega arith) (next 5 _ (omega arith) (next 6 _ (omega arith) (next 7 _ (omega arith) (next 8 _ (omega arith) refl))))) in
-      starts_with_lem mark b marked ∙ ap (λ l. mark ++ l) (tail ∙ rw (high_byte (byte b 3) (byte b 4) small, low_byte (byte b 3) (byte b 4) small))
+      starts_with_lem mark b marked ∙ ap (λ l. mark ++ l) (tail ∙ rw (high, low))
 
 pub record Opened (b : List ℕ) (c : Counts) (zs : List ℕ) : Type 0 where
   pub long : 9 ≤ length b
@@ -68,8 +66,7 @@ unfolding opening
 opening_exact b h =
     let m = held (leb 9 (length b)) 1 _ h in
     let n = held (starts_with mark b) 2 _ m.1 in
-    let o = held (between 1 2 (sixteen (byte b 3) (byte b 4))) 3 _ n.1 in
-    let version = between_out 1 2 (sixteen (byte b 3) (byte b 4)) o.0 in
+    let o = held (eqb (sixteen (byte b 3) (byte b 4)) 1) 3 _ n.1 in
     let l = held (between 1 8 (byte b 5)) 4 _ o.1 in
     let v = held (between 0 6 (byte b 6)) 5 _ l.1 in
     let e = held (between 1 4 (byte b 7)) 6 _ v.1 in
@@ -78,11 +75,10 @@ opening_exact b h =
     same-got (Opened b) r.1
     (record {
       long = long;
-      bytes = nine_bytes b long n.0 version.1;
+      bytes = nine_bytes b long n.0 (eqb-true _ 1 o.0);
       rest = refl;
       counts = refl;
       counts_in = record {
-        of_version = version;
         of_letters = between_out 1 8 (byte b 5) l.0;
         of_fields = (between_out 0 6 (byte b 6) v.0).1;
         of_equations = between_out 1 4 (byte b 7) e.0;
@@ -113,7 +109,7 @@ opening_longer xs ys h =
       same 8 (omega arith),
       drop-append-le 9 xs ys h,
     )
-    (longer_musts (starts_with mark xs) (between 1 2 (sixteen (byte xs 3) (byte xs 4))) (between 1 8 (byte xs 5)) (between 0 6 (byte xs 6)) (between 1 4 (byte xs 7)) (between 0 4 (byte xs 8)))
+    (longer_musts (starts_with mark xs) (eqb (sixteen (byte xs 3) (byte xs 4)) 1) (between 1 8 (byte xs 5)) (between 0 6 (byte xs 6)) (between 1 4 (byte xs 7)) (between 0 4 (byte xs 8)))
   where
     longer_musts : (m n l v e r : Bool) → must m 2 (must n 3 (must l 4 (must v 5 (must e 6 (must r 7 (got (counts_at xs) (drop 9 xs ++ ys))))))) ≡ longer ys (must m 2 (must n 3 (must l 4 (must v 5 (must e 6 (must r 7 (got (counts_at xs) (drop 9 xs))))))))
     longer_musts false n l v e r = refl
@@ -142,11 +138,11 @@ module _ (b : List ℕ) where
     opening_unmarked e = rw (long, e)
 
     module _ (marked : starts_with mark b ≡ true) where
-      pub opening-version : between 1 2 (sixteen (byte b 3) (byte b 4)) ≡ false → opening b ≡ fault 3
+      pub opening_version : eqb (sixteen (byte b 3) (byte b 4)) 1 ≡ false → opening b ≡ fault 3
       unfolding opening
-      opening-version e = rw (long, marked, e)
+      opening_version e = rw (long, marked, e)
 
-      module _ (version : between 1 2 (sixteen (byte b 3) (byte b 4)) ≡ true) where
+      module _ (version : eqb (sixteen (byte b 3) (byte b 4)) 1 ≡ true) where
         pub opening-letters : between 1 8 (byte b 5) ≡ false → opening b ≡ fault 4
         unfolding opening
         opening-letters e = rw (long, marked, version, e)

@@ -6,15 +6,13 @@ use Prim.Native.Nat.{ℕ, zero, suc, ◌+◌, ◌*◌, ◌/◌, ◌%◌, ◌<◌
 use native.Mathlib.Nat.{suc-mul, add-zero}
 use native.Mathlib.Numerals.{add-one}
 use native.Mathlib.Omega.{arith}
-use lib.Dec.{eqb}
 use lib.IntN.{pos, nat_abs}
 use lib.ListN.{length, get_or, take, drop, length-append, length-drop, length-map, drop_of_length-le, get_or-append, get_or-map}
 use lib.Seq.{take_at, drop_at, drop-drop, drop-cons, get_or-drop}
-use Rattle.model.specs.Lists.{each, when, All, Holds, Bytes}
-use Rattle.model.specs.Sheet.{sixteen, Equation, Constraint, Domain, Sheet, unrestricted, domain, constraint, coefficient, signed8, signed16, unsigned, symbol_byte, byte, header, counts_at, counts_of, bytes_of, encode_domain, encode_domains, encode_equation, encode_constraint, encode, Accepted, sheet_of}
+use Rattle.model.specs.Lists.{each, All, Holds, Bytes}
+use Rattle.model.specs.Sheet.{Equation, Constraint, Sheet, constraint, coefficient, signed8, signed16, unsigned, symbol_byte, byte, header, counts_at, counts_of, bytes_of, encode_equation, encode_constraint, encode, Accepted, sheet_of}
 use Rattle.model.specs.Range.{ConstraintIn}
 use Rattle.model.proofs.Lists.{weaken, at}
-use Rattle.model.proofs.Keeping.{map_at}
 use Rattle.model.proofs.Signed.{signed-unsigned, sixteen_bytes, signed16_out, small_signed}
 use Rattle.model.proofs.Known.{accepted_bytes, accepted_in_range}
 
@@ -50,36 +48,11 @@ pub each_at : {A : Type 0} (xs : List A) (f : A → List ℕ) (i : ℕ) (d : A) 
 unfolding each
 each_at xs f i d h = rw (add-one, drop-cons xs i d)
 
--- Several of one size: the i-th stands i sizes further on.
-pub holds_even : {A : Type 0} (f : A → List ℕ) (w : ℕ) (b : List ℕ) (k : ℕ) (xs : List A) (i : ℕ) → All (λ x. length (f x) ≡ w) xs → i ≤ length xs → Holds b k (each xs f) → Holds b (k + i * w) (each (drop i xs) f)
-unfolding each All
-holds_even f w b k xs zero a l h = holds-from (omega arith) h
-holds_even f w b k [] (suc i) a l h = absurd (omega arith)
-holds_even f w b k (x ∷ xs) (suc i) a l h =
-    let s = a.0 in
-    let e = suc-mul i w in
-    let n : k + length (f x) + i * w ≡ k + suc i * w = omega arith in
-    holds-from n (holds_even f w b (k + length (f x)) xs i a.1 (omega arith) (holds_next (f x) (each xs f) h))
-
--- a domain's two bytes
-abbrev none : Domain
-none = record { least = 0; members = 0 }
-
-two_bytes : (ds : List Domain) → All (λ d. length (encode_domain d) ≡ 2) ds
-unfolding All
-two_bytes [] = tt
-two_bytes (d ∷ ds) = (refl, two_bytes ds)
-
-two_each : (ds : List Domain) → length (each ds encode_domain) ≡ 2 * length ds
-unfolding each
-two_each [] = refl
-two_each (d ∷ ds) = let more = two_each ds in omega arith
-
 module _ (b : List ℕ) (y : Bytes b) (h : Accepted b) where
   abbrev entries_of : Sheet → List ℕ
   entries_of s = each s.equations encode_equation ++ each s.constraints encode_constraint
 
-  whole : Holds b 0 (header (counts_of (sheet_of b)) ++ ((sheet_of b).letters ++ ((sheet_of b).limits ++ (encode_domains (sheet_of b) ++ entries_of (sheet_of b)))))
+  whole : Holds b 0 (header (counts_of (sheet_of b)) ++ ((sheet_of b).letters ++ ((sheet_of b).limits ++ entries_of (sheet_of b))))
   unfolding encode
   whole = record { others = []; is = accepted_bytes b y h ∙ sym (append-nil _); inside = omega arith }
 
@@ -89,17 +62,6 @@ module _ (b : List ℕ) (y : Bytes b) (h : Accepted b) where
 
   pub header-fits : 9 ≤ length b
   header-fits = let f = holds_fits (header (counts_of (sheet_of b))) opens in omega arith
-
-  -- the version, of which the high byte is 0
-  pub version-at : byte b 4 ≡ (sheet_of b).version
-  version-at =
-      let r = (accepted_in_range b y h).counts_in.of_version in
-      holds_at_lem (header (counts_of (sheet_of b))) 4 opens (omega arith) ∙ omega (arith, r.1)
-
-  pub version_high : byte b 3 ≡ 0
-  version_high =
-      let r = (accepted_in_range b y h).counts_in.of_version in
-      holds_at_lem (header (counts_of (sheet_of b))) 3 opens (omega arith) ∙ omega (arith, r.1)
 
   pub letter-count-at : byte b 5 ≡ length (sheet_of b).letters
   letter-count-at = holds_at_lem (header (counts_of (sheet_of b))) 5 opens (omega arith)
@@ -113,66 +75,25 @@ module _ (b : List ℕ) (y : Bytes b) (h : Accepted b) where
   constraint-count-at : byte b 8 ≡ length (sheet_of b).constraints
   constraint-count-at = holds_at_lem (header (counts_of (sheet_of b))) 8 opens (omega arith)
 
-  -- all of them
+  -- all four
   pub counts_at_lem : counts_at b ≡ counts_of (sheet_of b)
-  counts_at_lem = let high = version_high in let low = version-at in let w : sixteen (byte b 3) (byte b 4) ≡ (sheet_of b).version = omega arith in let l = letter-count-at in let v = field-count-at in let e = equation-count-at in let r = constraint-count-at in cc
+  counts_at_lem = let l = letter-count-at in let v = field-count-at in let e = equation-count-at in let r = constraint-count-at in cc
 
-  -- with the version's low byte alone
-  pub counts_at_low : record { version = byte b 4; letter_count = byte b 5; field_count = byte b 6; equation_count = byte b 7; constraint_count = byte b 8 } ≡ counts_of (sheet_of b)
-  counts_at_low = let w = version-at in let l = letter-count-at in let v = field-count-at in let e = equation-count-at in let r = constraint-count-at in cc
-
-  -- letters, limits, domains, equations and constraints
-  after_header : Holds b 9 ((sheet_of b).letters ++ ((sheet_of b).limits ++ (encode_domains (sheet_of b) ++ entries_of (sheet_of b))))
+  -- letters, limits, equations and constraints
+  after_header : Holds b 9 ((sheet_of b).letters ++ ((sheet_of b).limits ++ entries_of (sheet_of b)))
   after_header = holds_next (header (counts_of (sheet_of b))) _ whole
 
   pub holds-letters : Holds b 9 (sheet_of b).letters
   holds-letters = holds-first (sheet_of b).letters _ after_header
 
-  after_letters : Holds b (9 + length (sheet_of b).letters) ((sheet_of b).limits ++ (encode_domains (sheet_of b) ++ entries_of (sheet_of b)))
+  after_letters : Holds b (9 + length (sheet_of b).letters) ((sheet_of b).limits ++ entries_of (sheet_of b))
   after_letters = holds_next (sheet_of b).letters _ after_header
 
   pub holds_limits : Holds b (9 + length (sheet_of b).letters) (sheet_of b).limits
   holds_limits = holds-first (sheet_of b).limits _ after_letters
 
-  after_limits : Holds b (9 + length (sheet_of b).letters + length (sheet_of b).limits) (encode_domains (sheet_of b) ++ entries_of (sheet_of b))
-  after_limits = holds_next (sheet_of b).limits _ after_letters
-
-  -- in version 1 the entries follow at once, and every field's domain is the same
-  pub entries_one : (sheet_of b).version ≡ 1 → Holds b (9 + length (sheet_of b).letters + length (sheet_of b).limits) (each (sheet_of b).equations encode_equation ++ each (sheet_of b).constraints encode_constraint)
-  entries_one e = subst (λ v. Holds b (9 + length (sheet_of b).letters + length (sheet_of b).limits) (when (eqb v 2) (each (sheet_of b).domains encode_domain) ++ entries_of (sheet_of b))) e after_limits
-
-  pub domain_one : (sheet_of b).version ≡ 1 → (f : ℕ) → f < length (sheet_of b).limits → domain (sheet_of b) f ≡ unrestricted (length (sheet_of b).letters)
-  domain_one e f l =
-      ap (λ ds. get_or ds f none) ((accepted_in_range b y h).version_one e) ∙ map_at (λ n. unrestricted (length (sheet_of b).letters)) 0 none (sheet_of b).limits f l
-
-  -- in version 2 each field has two bytes before them
-  module _ (two : (sheet_of b).version ≡ 2) where
-    domains-there : Holds b (9 + length (sheet_of b).letters + length (sheet_of b).limits) (each (sheet_of b).domains encode_domain ++ entries_of (sheet_of b))
-    domains-there = subst (λ v. Holds b (9 + length (sheet_of b).letters + length (sheet_of b).limits) (when (eqb v 2) (each (sheet_of b).domains encode_domain) ++ entries_of (sheet_of b))) two after_limits
-
-    domain-count : length (sheet_of b).domains ≡ length (sheet_of b).limits
-    domain-count = (accepted_in_range b y h).domains_in.one_each
-
-    pub entries_two : Holds b (9 + length (sheet_of b).letters + length (sheet_of b).limits + 2 * length (sheet_of b).limits) (each (sheet_of b).equations encode_equation ++ each (sheet_of b).constraints encode_constraint)
-    entries_two =
-        let n = two_each (sheet_of b).domains in
-        let m = domain-count in
-        holds-from (omega arith) (holds_next (each (sheet_of b).domains encode_domain) _ domains-there)
-
-    this_domain : (f : ℕ) → f < length (sheet_of b).limits → Holds b (9 + length (sheet_of b).letters + length (sheet_of b).limits + f * 2) (encode_domain (domain (sheet_of b) f))
-    this_domain f l =
-        let m = domain-count in
-        let even = holds_even encode_domain 2 b _ (sheet_of b).domains f (two_bytes (sheet_of b).domains) (omega arith) (holds-first (each (sheet_of b).domains encode_domain) _ domains-there) in
-        holds-first (encode_domain (domain (sheet_of b) f)) _ (subst (Holds b _) (each_at (sheet_of b).domains encode_domain f none (omega arith)) even)
-
-    pub least_at : (f : ℕ) → f < length (sheet_of b).limits → byte b (9 + length (sheet_of b).letters + length (sheet_of b).limits + f * 2) ≡ (domain (sheet_of b) f).least
-    least_at f l = ap (byte b) (sym (add-zero _)) ∙ holds_at_lem (encode_domain (domain (sheet_of b) f)) 0 (this_domain f l) (omega arith)
-
-    pub members-at : (f : ℕ) → f < length (sheet_of b).limits → byte b (9 + length (sheet_of b).letters + length (sheet_of b).limits + f * 2 + 1) ≡ (domain (sheet_of b) f).members
-    members-at f l = holds_at_lem (encode_domain (domain (sheet_of b) f)) 1 (this_domain f l) (omega arith)
-
-    pub domain-fits : (f : ℕ) → f < length (sheet_of b).limits → 9 + length (sheet_of b).letters + length (sheet_of b).limits + f * 2 + 2 ≤ length b
-    domain-fits f l = holds_fits (encode_domain (domain (sheet_of b) f)) (this_domain f l)
+  pub holds_entries : Holds b (9 + length (sheet_of b).letters + length (sheet_of b).limits) (each (sheet_of b).equations encode_equation ++ each (sheet_of b).constraints encode_constraint)
+  holds_entries = holds_next (sheet_of b).limits _ after_letters
 
 -- An equation's bytes: its two counts, and its two templates.
 pub record EquationAt (b : List ℕ) (k : ℕ) (e : Equation) : Type 0 where
@@ -218,6 +139,17 @@ module _ (b : List ℕ) (k i : ℕ) (es : List Equation) (others : List ℕ) (h 
       let r = length-map e.right symbol_byte in
       let size : k + length (encode_equation e) ≡ k + 2 + length e.left + length e.right = omega arith in
       holds-from size (holds_next (encode_equation e) _ here)
+
+-- Several of one size: the i-th stands i sizes further on.
+pub holds_even : {A : Type 0} (f : A → List ℕ) (w : ℕ) (b : List ℕ) (k : ℕ) (xs : List A) (i : ℕ) → All (λ x. length (f x) ≡ w) xs → i ≤ length xs → Holds b k (each xs f) → Holds b (k + i * w) (each (drop i xs) f)
+unfolding each All
+holds_even f w b k xs zero a l h = holds-from (omega arith) h
+holds_even f w b k [] (suc i) a l h = absurd (omega arith)
+holds_even f w b k (x ∷ xs) (suc i) a l h =
+    let s = a.0 in
+    let e = suc-mul i w in
+    let n : k + length (f x) + i * w ≡ k + suc i * w = omega arith in
+    holds-from n (holds_even f w b (k + length (f x)) xs i a.1 (omega arith) (holds_next (f x) (each xs f) h))
 
 -- A constraint's bytes: its coefficients, and its limit.
 pub record ConstraintAt (v : ℕ) (b : List ℕ) (k : ℕ) (r : Constraint) : Type 0 where

@@ -2,14 +2,12 @@
 use mathlib.Core.Path.{◌≡◌, refl, sym, ap, ◌∙◌}
 use mathlib.Core.Bool.{Bool, true, false}
 use mathlib.Core.List.{List, ◌∷◌, map}
-use Prim.Native.Nat.{ℕ, zero, suc, ◌+◌, ◌-◌, ◌<◌, ◌≤◌}
-use native.Mathlib.Numerals.{add-one}
+use Prim.Native.Nat.{ℕ, zero, suc, ◌+◌, ◌-◌, ◌<◌}
 use native.Mathlib.Omega.{arith}
 use lib.Dec.{leb}
-use lib.ListN.{length, get_or, take, drop, drop_of_length-le}
-use lib.Seq.{take_at, drop_at, drop-cons, get_or-take}
-use borrow.Author.Tests.{ne_eqb}
-use Rattle.model.specs.Sheet.{Equation, Constraint, Step, got, fault, rest, ◌then◌, must, Role, letter_byte, limit_byte, least_byte, set_byte, count_byte, template_byte, coefficient_byte, most_byte, row, times, a_domain, the_domains, domains_of, sides, an_equation, a_constraint, symbol_of, width, Counts, walk}
+use lib.ListN.{length, get_or, take, drop}
+use lib.Seq.{take_at, drop_at, get_or-take}
+use Rattle.model.specs.Sheet.{Equation, Constraint, Step, got, fault, rest, ◌then◌, must, Role, letter_byte, limit_byte, count_byte, template_byte, coefficient_byte, most_byte, row, times, sides, an_equation, a_constraint, symbol_of, width, Counts, walk}
 use Rattle.model.proofs.Steps.{no-fault, got-rest, went}
 use Rattle.model.proofs.Rows.{row_exact}
 
@@ -46,37 +44,6 @@ pub row-value : (role : Role) (before n : ℕ) (xs : List ℕ) {us ys : List ℕ
 row-value role before n xs {us} {ys} h =
     let r = row_exact role before n xs h in
     sym (ap (take n) r.bytes ∙ take_at us ys n r.count)
-
--- A domain, and one for each limit: what is left of them from each field on.
-pub domain-rest : (l limit : ℕ) (xs : List ℕ) → rest (a_domain l limit xs) ≡ rest (row (least_byte limit) 0 1 xs then (λ n ys. row (set_byte l) 0 1 ys))
-unfolding a_domain
-domain-rest l limit xs =
-    rest-same (row (least_byte limit) 0 1 xs) _ (λ n ys. row (set_byte l) 0 1 ys) (λ n ys. rest_wrapped (row (set_byte l) 0 1 ys) _)
-
-module _ (l : ℕ) (limits : List ℕ) (f : ℕ) (xs : List ℕ) where
-  pub domains_go : f < length limits → (ys : List ℕ) → rest (a_domain l (get_or limits f 0) xs) ≡ got tt ys → rest (the_domains l (drop f limits) xs) ≡ rest (the_domains l (drop (f + 1) limits) ys)
-  unfolding the_domains
-  domains_go h ys e =
-      let d = found (a_domain l (get_or limits f 0) xs) e in
-      rw (add-one, drop-cons limits f 0 h, d.is) (rest_wrapped (the_domains l (drop (suc f) limits) ys) (λ ds. d.value ∷ ds))
-
-  pub domains_stop : f < length limits → {k : ℕ} → rest (a_domain l (get_or limits f 0) xs) ≡ fault k → rest (the_domains l (drop f limits) xs) ≡ fault k
-  unfolding the_domains
-  domains_stop h e = rw (drop-cons limits f 0 h) (rest_stops (a_domain l (get_or limits f 0) xs) _ e)
-
-  pub domains_done : f ≡ length limits → rest (the_domains l (drop f limits) xs) ≡ got tt xs
-  unfolding the_domains
-  domains_done h = let all : length limits ≤ f = omega arith in rw (drop_of_length-le limits all)
-
--- by the version
-module _ (version l : ℕ) (limits xs : List ℕ) where
-  pub domains_two : version ≡ 2 → rest (domains_of version l limits xs) ≡ rest (the_domains l limits xs)
-  unfolding domains_of
-  domains_two e = rw e
-
-  pub domains_other : (version ≡ 2 → ⊥) → rest (domains_of version l limits xs) ≡ got tt xs
-  unfolding domains_of
-  domains_other n = rw (ne_eqb version 2 n)
 
 -- A constraint.
 pub constraint-rest : (v : ℕ) (xs : List ℕ) → rest (a_constraint v xs) ≡ rest (row coefficient_byte 0 v xs then (λ cs ys. row most_byte 0 2 ys))
@@ -154,7 +121,7 @@ module _ (one : List ℕ → Step Unit) (n i : ℕ) (xs : List ℕ) where
   unfolding times
   times_done e = let m : n - i ≡ 0 = omega arith in rw m
 
--- The whole walk: after the letters and the limits, whose value is the limits, the domains, the equations and the constraints.
+-- The whole walk: after the letters and the limits, whose value is the limits.
 rest_assoc : {A B C D : Type 0} (s : Step A) (f : A → List ℕ → Step B) (k : A → B → List ℕ → Step C) (g : B → List ℕ → Step D) → ((a : A) (b : B) (zs : List ℕ) → rest (k a b zs) ≡ rest (g b zs)) → rest (s then (λ a ys. f a ys then k a)) ≡ rest ((s then f) then g)
 rest_assoc (got a ys) f k g h = rest-same (f a ys) (k a) g (h a)
 rest_assoc (fault n) f k g h = refl
@@ -173,22 +140,18 @@ abbrev pub entries_after : Counts → List ℕ → List ℕ → Step (List Const
 entries_after c limits ys =
     times c.equation_count (an_equation c.letter_count limits) ys then (λ es zs. times c.constraint_count (a_constraint c.field_count) zs)
 
-abbrev pub domains_after : Counts → List ℕ → List ℕ → Step (List Constraint)
-domains_after c limits ys = domains_of c.version c.letter_count limits ys then (λ ds zs. entries_after c limits zs)
-
 module _ (c : Counts) (xs : List ℕ) where
-  walk-rest : rest (walk c xs) ≡ rest (tables c.letter_count c.field_count xs then domains_after c)
+  walk-rest : rest (walk c xs) ≡ rest (tables c.letter_count c.field_count xs then entries_after c)
   unfolding walk
   walk-rest =
-      rest_assoc (row letter_byte 0 c.letter_count xs) (λ ls ys. row limit_byte 0 c.field_count ys) _ (domains_after c)
-      (λ ls limits ys. rest-same (domains_of c.version c.letter_count limits ys) _ (λ ds zs. entries_after c limits zs)
-      (λ ds zs. rest-same (times c.equation_count (an_equation c.letter_count limits) zs) _ (λ es us. times c.constraint_count (a_constraint c.field_count) us)
-      (λ es us. rest_wrapped (times c.constraint_count (a_constraint c.field_count) us) _)))
+      rest_assoc (row letter_byte 0 c.letter_count xs) (λ ls ys. row limit_byte 0 c.field_count ys) _ (entries_after c)
+      (λ ls limits ys. rest-same (times c.equation_count (an_equation c.letter_count limits) ys) _ (λ es zs. times c.constraint_count (a_constraint c.field_count) zs)
+      (λ es zs. rest_wrapped (times c.constraint_count (a_constraint c.field_count) zs) _))
 
   pub walk_stops : {k : ℕ} → rest (tables c.letter_count c.field_count xs) ≡ fault k → rest (walk c xs) ≡ fault k
-  walk_stops h = walk-rest ∙ rest_stops (tables c.letter_count c.field_count xs) (domains_after c) h
+  walk_stops h = walk-rest ∙ rest_stops (tables c.letter_count c.field_count xs) (entries_after c) h
 
-  pub walk_goes : (ys : List ℕ) → rest (tables c.letter_count c.field_count xs) ≡ got tt ys → rest (walk c xs) ≡ rest (domains_after c (take c.field_count (drop c.letter_count xs)) ys)
+  pub walk_goes : (ys : List ℕ) → rest (tables c.letter_count c.field_count xs) ≡ got tt ys → rest (walk c xs) ≡ rest (entries_after c (take c.field_count (drop c.letter_count xs)) ys)
   walk_goes ys h =
       let f = found (tables c.letter_count c.field_count xs) h in
       walk-rest ∙ rw (f.is, tables_value c.letter_count c.field_count xs f.is)

@@ -5,16 +5,15 @@ use mathlib.Core.Bool.{Bool, true, false, ◌&&◌}
 use mathlib.Core.List.{List, [], ◌∷◌, ◌++◌}
 use Prim.Native.Nat.{ℕ, suc, ◌+◌, ◌<◌, ◌≤◌}
 use native.Mathlib.Omega.{arith}
-use lib.Dec.{T, leb, eqb}
+use lib.Dec.{T, eqb}
 use lib.ListN.{length, get_or, take, length-append}
 use lib.Signed.{le_z}
-use borrow.Author.Tests.{eqb-true, eq-eqb, le-leb, leb-true}
-use Rattle.model.specs.Lists.{each, up_to, All, all}
-use Rattle.model.specs.Sheet.{Symbol, letter, field, Equation, Constraint, has_bit, Sheet, domain, cells_of, width}
+use borrow.Author.Tests.{eqb-true, eq-eqb}
+use Rattle.model.specs.Lists.{each, All, all}
+use Rattle.model.specs.Sheet.{Symbol, letter, field, Equation, Constraint, Sheet, cells_of, width}
 use Rattle.model.specs.Range.{SymbolIn}
-use Rattle.model.specs.Word.{Substitution, text, Legal, symbol_word, spell, SameLetter, SameWord, EquationHolds, weight, ConstraintHolds, FieldKeeps, Keeps, Solves, same_letter, same_word, equation_holds, constraint_holds, field_keeps, keeps, solves}
-use Rattle.model.proofs.Lists.{never, and_split, and_join, weaken, each_in, all_out, all_in, below_out, each_same, each_next, each_part}
-use Rattle.model.proofs.Keeping.{below_in}
+use Rattle.model.specs.Word.{Substitution, text, Legal, symbol_word, spell, SameLetter, SameWord, EquationHolds, weight, ConstraintHolds, Keeps, Solves, same_letter, same_word, equation_holds, constraint_holds, keeps, solves}
+use Rattle.model.proofs.Lists.{never, and_split, and_join, and_true, weaken, each_in, all_out, all_in, each_same, each_next, each_part}
 
 -- Two letters count as the same exactly when they are equal, and so do two words; `same_letter` and `same_word` decide it.
 pub same-letter : (s : Sheet) (a b : ℕ) → same_letter s a b ≡ eqb a b
@@ -92,33 +91,14 @@ pub constraint_in : (s : Sheet) (g : Substitution) (r : Constraint) → Constrai
 unfolding constraint_holds
 constraint_in s g r h = to_test (le_z (weight r g (length s.limits)) r.most) h.le
 
--- what fields ask beyond letters and limits: of one field, and of all
-module _ (s : Sheet) (g : Substitution) where
-  pub field-keeps_out : (f : ℕ) → field_keeps s g f ≡ true → FieldKeeps s g f
-  unfolding field_keeps
-  field-keeps_out f e =
-      let r = and_split (leb (domain s f).least (length (text g f))) (all (has_bit (domain s f).members) (text g f)) e in
-      record { long_enough = leb-true _ _ r.0; of_members = all_out (has_bit (domain s f).members) (text g f) r.1 }
+-- what fields ask beyond letters and limits
+pub keeps_every : (s : Sheet) (g : Substitution) → Keeps s g
+unfolding Keeps
+keeps_every s g = tt
 
-  pub field-keeps_in : (f : ℕ) → FieldKeeps s g f → field_keeps s g f ≡ true
-  unfolding field_keeps
-  field-keeps_in f k = and_join (le-leb _ _ k.long_enough) (all_in (has_bit (domain s f).members) (text g f) k.of_members)
-
-  pub keeps-fields : Keeps s g → (f : ℕ) → f < length s.limits → FieldKeeps s g f
-  unfolding Keeps
-  keeps-fields k = below_out (FieldKeeps s g) (length s.limits) k
-
-  pub fields_keep : ((f : ℕ) → f < length s.limits → FieldKeeps s g f) → Keeps s g
-  unfolding Keeps
-  fields_keep h = below_in (FieldKeeps s g) (length s.limits) h
-
-  pub keeps_out : keeps s g ≡ true → Keeps s g
-  unfolding keeps Keeps
-  keeps_out e = weaken _ (FieldKeeps s g) (up_to (length s.limits)) field-keeps_out (all_out (field_keeps s g) (up_to (length s.limits)) e)
-
-  pub keeps_in : Keeps s g → keeps s g ≡ true
-  unfolding keeps Keeps
-  keeps_in k = all_in (field_keeps s g) (up_to (length s.limits)) (weaken _ _ (up_to (length s.limits)) field-keeps_in k)
+keeps_in : (s : Sheet) (g : Substitution) → Keeps s g → keeps s g ≡ true
+unfolding keeps
+keeps_in s g k = refl
 
 pub solves_out : (s : Sheet) (g : Substitution) → Legal s g → solves s g ≡ true → Solves s g
 unfolding solves
@@ -129,7 +109,7 @@ solves_out s g ok e =
       is_legal = ok;
       equations_hold = weaken _ (EquationHolds s g) s.equations (equation_out s g) (all_out (equation_holds s g) s.equations r.0);
       constraints_hold = weaken _ (ConstraintHolds s g) s.constraints (constraint_out s g) (all_out (constraint_holds s g) s.constraints q.0);
-      keeps_all = keeps_out s g q.1;
+      keeps_all = keeps_every s g;
     }
 
 pub solves_in : (s : Sheet) (g : Substitution) → Solves s g → solves s g ≡ true
@@ -139,10 +119,10 @@ solves_in s g h =
     (all_in (equation_holds s g) s.equations (weaken _ _ s.equations (equation_in s g) h.equations_hold))
     (and_join (all_in (constraint_holds s g) s.constraints (weaken _ _ s.constraints (constraint_in s g) h.constraints_hold)) (keeps_in s g h.keeps_all))
 
--- it is decided by the equations, the constraints and the fields
-pub solves-parts : (s : Sheet) (g : Substitution) → solves s g ≡ (all (equation_holds s g) s.equations && (all (constraint_holds s g) s.constraints && all (field_keeps s g) (up_to (length s.limits))))
+-- in version 1 it is decided by the equations and the constraints
+pub solves-parts : (s : Sheet) (g : Substitution) → solves s g ≡ (all (equation_holds s g) s.equations && all (constraint_holds s g) s.constraints)
 unfolding solves keeps
-solves-parts s g = refl
+solves-parts s g = ap (λ b. all (equation_holds s g) s.equations && b) (and_true (all (constraint_holds s g) s.constraints))
 
 -- The word of a template, symbol by symbol.
 pub spell-none : (g : Substitution) → spell g [] ≡ []

@@ -1,7 +1,7 @@
--- The ranges of documents 01 and 02: which sheets there are. Stated of what a sheet says, and not of its bytes.
-use Rattle.std.specs.Prelude.{◌≡◌, List, [], ◌∷◌, map, ℕ, suc, ◌^◌, ◌≤◌, ◌<◌, ℤ, pos, negsuc, nat_abs, length, get_or}
+-- The ranges of document 01: which sheets there are. Stated of what a sheet says, and not of its bytes.
+use Rattle.std.specs.Prelude.{◌≡◌, List, [], ◌∷◌, ℕ, suc, ◌≤◌, ◌<◌, ℤ, pos, negsuc, nat_abs, length}
 use Rattle.model.specs.Lists.{All}
-use Rattle.model.specs.Sheet.{Symbol, letter, field, Equation, Constraint, Sheet, Domain, unrestricted, width, Counts, counts_of, Accepted, sheet_of}
+use Rattle.model.specs.Sheet.{Symbol, letter, field, Equation, Constraint, Sheet, width, Counts, counts_of, Accepted, sheet_of}
 
 -- "strictly rising", above the number before them
 unfoldable pub Rising : ℕ → List ℕ → Type 0
@@ -34,31 +34,19 @@ pub record ConstraintIn (v : ℕ) (r : Constraint) : Type 0 where
   pub small : All (λ c. nat_abs c ≤ 4) r.coefficients
   pub most_in : Signed16 r.most
 
--- Document 02, No. 7: a least length not above the field's limit, and a set with no bit at or above L; one for each field
-pub record DomainIn (l limit : ℕ) (d : Domain) : Type 0 where
-  pub least_in : d.least ≤ limit
-  pub members_in : d.members < 2 ^ l
-
-pub record DomainsIn (l : ℕ) (limits : List ℕ) (ds : List Domain) : Type 0 where
-  pub one_each : length ds ≡ length limits
-  pub each_in : (f : ℕ) → f < length limits → DomainIn l (get_or limits f 0) (get_or ds f (record { least = 0; members = 0 }))
-
--- versions "1 and 2"; "letter count L (1 to 8), field count V (0 to 6), pair count E (1 to 4), rule count R (0 to 4)"
+-- "letter count L (1 to 8), field count V (0 to 6), pair count E (1 to 4), rule count R (0 to 4)"
 pub record CountsIn (c : Counts) : Type 0 where
-  pub of_version : (1 ≤ c.version) × (c.version ≤ 2)
   pub of_letters : (1 ≤ c.letter_count) × (c.letter_count ≤ 8)
   pub of_fields : c.field_count ≤ 6
   pub of_equations : (1 ≤ c.equation_count) × (c.equation_count ≤ 4)
   pub of_constraints : c.constraint_count ≤ 4
 
--- "L letters: bytes 33 to 126, strictly rising." "V limits, one byte each, 0 to 8." "Version 1 is read as least length 0 and all letters."
+-- "L letters: bytes 33 to 126, strictly rising." "V limits, one byte each, 0 to 8."
 pub record InRange (s : Sheet) : Type 0 where
   pub counts_in : CountsIn (counts_of s)
   pub letters_in : All (λ x. (33 ≤ x) × (x ≤ 126)) s.letters
   pub rising : Rising 0 s.letters
   pub limits_in : All (λ n. n ≤ 8) s.limits
-  pub domains_in : DomainsIn (length s.letters) s.limits s.domains
-  pub version_one : s.version ≡ 1 → s.domains ≡ map (λ n. unrestricted (length s.letters)) s.limits
   pub equations_in : All (EquationIn (length s.letters) s.limits) s.equations
   pub constraints_in : All (ConstraintIn (length s.limits)) s.constraints
 

@@ -1,7 +1,7 @@
 -- A sheet: what it says, and the bytes that say it. `read` gives the sheet of a list of bytes or the first
--- refusal in the papers' order, `encode` the bytes of a sheet. Nothing here says what a sheet means.
-use Rattle.std.specs.Prelude.{◌≡◌, Bool, true, false, ◌&&◌, ◌||◌, List, [], ◌∷◌, ◌++◌, map, ℕ, zero, suc, ◌+◌, ◌-◌, ◌*◌, ◌/◌, ◌%◌, ◌^◌, leb, ltb, eqb, ℤ, pos, negsuc, nat_abs, ◌-ℤ◌, length, get_or, drop}
-use Rattle.model.specs.Lists.{pick, between, starts_with, each, when, total}
+-- refusal in document 01's order, `encode` the bytes of a sheet. Nothing here says what a sheet means.
+use Rattle.std.specs.Prelude.{◌≡◌, Bool, true, false, ◌&&◌, ◌||◌, List, [], ◌∷◌, ◌++◌, map, ℕ, zero, suc, ◌+◌, ◌-◌, ◌*◌, ◌/◌, ◌%◌, leb, ltb, eqb, ℤ, pos, negsuc, nat_abs, ◌-ℤ◌, length, get_or, drop}
+use Rattle.model.specs.Lists.{pick, between, starts_with, each}
 
 -- What a sheet says.
 
@@ -20,44 +20,21 @@ pub record Constraint : Type 0 where
   pub coefficients : List ℤ
   pub most : ℤ
 
--- A field's domain (document 02, No. 7: its kind): "a least length, and a set of letters with bit a (value 2 to the a) for letter a". The set is the number
--- that stands in its byte.
-pub record Domain : Type 0 where
-  pub least : ℕ
-  pub members : ℕ
-
--- whether n has bit a: the binary digit of "value 2 to the a"
-unfoldable pub has_bit : ℕ → ℕ → Bool
-has_bit n a = eqb (n / 2 ^ a % 2) 1
-
--- how many of the letters below l a set has (document 01: "Ones of a letter-set byte")
-unfoldable pub ones : ℕ → ℕ → ℕ
-ones l n = total l (λ a. pick (has_bit n a) 1 0)
-
--- "least length 0 and all letters", of l letters
-abbrev pub unrestricted : ℕ → Domain
-unrestricted l = record { least = 0; members = 2 ^ l - 1 }
-
--- The version (document 02, No. 7), the letters' bytes ("A letter's number is its place from 0."), the fields' limits (a field is a bounded string
--- variable) and their domains, the equations and the constraints.
+-- The letters' bytes ("A letter's number is its place from 0."), the fields' limits (a field is a bounded string variable), the equations
+-- and the constraints.
 pub record Sheet : Type 0 where
-  pub version : ℕ
   pub letters : List ℕ
   pub limits : List ℕ
-  pub domains : List Domain
   pub equations : List Equation
   pub constraints : List Constraint
 
--- Its parts by number: a letter's byte, a field's limit, its domain, an equation, one of its templates (side 0 is the left, any other the right), a
+-- Its parts by number: a letter's byte, a field's limit, an equation, one of its templates (side 0 is the left, any other the right), a
 -- constraint, a coefficient.
 abbrev pub letter_of : Sheet → ℕ → ℕ
 letter_of s a = get_or s.letters a 0
 
 abbrev pub limit : Sheet → ℕ → ℕ
 limit s f = get_or s.limits f 0
-
-abbrev pub domain : Sheet → ℕ → Domain
-domain s f = get_or s.domains f (record { least = 0; members = 0 })
 
 abbrev pub equation : Sheet → ℕ → Equation
 equation s p = get_or s.equations p (record { left = []; right = [] })
@@ -131,13 +108,11 @@ fault n then go = fault n
 abbrev pub must : {A : Type 0} → Bool → ℕ → Step A → Step A
 must ok n go = pick ok go (fault n)
 
--- What a byte of the walk stands for: a letter, a limit, a least length (of a field with that limit), a set (of a sheet with so many letters), a symbol
--- count, a symbol (of a sheet with so many letters and fields), a coefficient, or half of a constraint's limit.
+-- What a byte of the walk stands for: a letter, a limit, a symbol count, a symbol (of a sheet with so many letters and fields), a
+-- coefficient, or half of a constraint's limit.
 pub data Role : Type 0 where
   letter_byte : Role
   limit_byte : Role
-  least_byte : ℕ → Role
-  set_byte : ℕ → Role
   count_byte : Role
   template_byte : ℕ → ℕ → Role
   coefficient_byte : Role
@@ -149,10 +124,6 @@ abbrev pub passes : Role → ℕ → ℕ → Bool
 passes letter_byte before x = between 33 126 x && ltb before x
 -- "V limits, one byte each, 0 to 8."
 passes limit_byte before x = leb x 8
--- document 02: "46 when a least length is above its limit."
-passes (least_byte limit) before x = leb x limit
--- "47 when a set has a bit at or above L": when it is 2 to the L or more (`no_higher_bit` in proofs/Bits.antt)
-passes (set_byte l) before x = ltb x (2 ^ l)
 -- "left symbol count, right symbol count (each 0 to 12)"
 passes count_byte before x = leb x 12
 -- "Symbol 0 to L-1 is that letter; 128+f is field f, f below V."
@@ -167,8 +138,6 @@ passes most_byte before x = true
 abbrev pub refusal_of : Role → ℕ
 refusal_of letter_byte = 10
 refusal_of limit_byte = 11
-refusal_of (least_byte limit) = 46
-refusal_of (set_byte l) = 47
 refusal_of count_byte = 12
 refusal_of (template_byte l v) = 13
 refusal_of coefficient_byte = 15
@@ -185,22 +154,6 @@ row role before (suc n) (x ∷ xs) =
 unfoldable pub times : {A : Type 0} → ℕ → (List ℕ → Step A) → List ℕ → Step (List A)
 times zero one xs = got [] xs
 times (suc n) one xs = one xs then (λ a ys. times n one ys then (λ more zs. got (a ∷ more) zs))
-
--- Document 02, No. 7: "two bytes for each field: a least length, and a set of letters"
-unfoldable pub a_domain : ℕ → ℕ → List ℕ → Step Domain
-a_domain l limit xs =
-    row (least_byte limit) 0 1 xs then (λ n xs1.
-    row (set_byte l) 0 1 xs1 then (λ m xs2.
-    got (record { least = get_or n 0 0; members = get_or m 0 0 }) xs2))
-
--- one for each limit, in order
-unfoldable pub the_domains : ℕ → List ℕ → List ℕ → Step (List Domain)
-the_domains l [] xs = got [] xs
-the_domains l (limit ∷ limits) xs = a_domain l limit xs then (λ d ys. the_domains l limits ys then (λ ds zs. got (d ∷ ds) zs))
-
--- "Sheet version 2 has" them. "Version 1 is read as least length 0 and all letters."
-unfoldable pub domains_of : ℕ → ℕ → List ℕ → List ℕ → Step (List Domain)
-domains_of version l limits xs = pick (eqb version 2) (the_domains l limits xs) (got (map (λ n. unrestricted l) limits) xs)
 
 -- "left symbols, right symbols", m of the one and n of the other; then "14 width (tested after a pair's symbols, left then right)",
 -- "at most 24".
@@ -224,9 +177,8 @@ a_constraint v xs =
     row most_byte 0 2 xs1 then (λ m xs2.
     got (record { coefficients = map signed8 cs; most = signed16 (get_or m 0 0) (get_or m 1 0) }) xs2))
 
--- What a header says: the version, and the four counts, letters, fields, equations, constraints.
+-- The four counts of a header: letters, fields, equations, constraints.
 pub record Counts : Type 0 where
-  pub version : ℕ
   pub letter_count : ℕ
   pub field_count : ℕ
   pub equation_count : ℕ
@@ -241,31 +193,30 @@ abbrev pub byte : List ℕ → ℕ → ℕ
 byte b k = get_or b k 0
 
 abbrev pub counts_at : List ℕ → Counts
-counts_at b = record { version = sixteen (byte b 3) (byte b 4); letter_count = byte b 5; field_count = byte b 6; equation_count = byte b 7; constraint_count = byte b 8 }
+counts_at b = record { letter_count = byte b 5; field_count = byte b 6; equation_count = byte b 7; constraint_count = byte b 8 }
 
 -- "Reading: 1 under 9 bytes; 2 mark; 3 version; 4 L; 5 V; 6 E; 7 R."
--- "Offset 3: version, 16 bits", and document 02, No. 7: "3 is given for versions other than 1 and 2." "Offsets 5 to 8: letter count L (1 to 8), field count V
--- (0 to 6), pair count E (1 to 4), rule count R (0 to 4)."
+-- "Offset 3: version, 16 bits, 1." "Offsets 5 to 8: letter count L (1 to 8), field count V (0 to 6), pair count E (1 to 4), rule
+-- count R (0 to 4)."
 unfoldable pub opening : List ℕ → Step Counts
 opening b =
     must (leb 9 (length b)) 1
     (must (starts_with mark b) 2
-    (must (between 1 2 (sixteen (byte b 3) (byte b 4))) 3
+    (must (eqb (sixteen (byte b 3) (byte b 4)) 1) 3
     (must (between 1 8 (byte b 5)) 4
     (must (between 0 6 (byte b 6)) 5
     (must (between 1 4 (byte b 7)) 6
     (must (between 0 4 (byte b 8)) 7
     (got (counts_at b) (drop 9 b))))))))
 
--- "The walk then goes through the bytes in order": letters, limits, domains ("after the limits"), equations, constraints.
+-- "The walk then goes through the bytes in order": letters, limits, equations, constraints.
 unfoldable pub walk : Counts → List ℕ → Step Sheet
 walk c xs =
     row letter_byte 0 c.letter_count xs then (λ ls xs1.
     row limit_byte 0 c.field_count xs1 then (λ limits xs2.
-    domains_of c.version c.letter_count limits xs2 then (λ ds xs3.
-    times c.equation_count (an_equation c.letter_count limits) xs3 then (λ es xs4.
-    times c.constraint_count (a_constraint c.field_count) xs4 then (λ rs xs5.
-    got (record { version = c.version; letters = ls; limits = limits; domains = ds; equations = es; constraints = rs }) xs5)))))
+    times c.equation_count (an_equation c.letter_count limits) xs2 then (λ es xs3.
+    times c.constraint_count (a_constraint c.field_count) xs3 then (λ rs xs4.
+    got (record { letters = ls; limits = limits; equations = es; constraints = rs }) xs4))))
 
 -- The answer of reading: the sheet, or the refusal's number.
 pub data Reading : Type 0 where
@@ -296,30 +247,22 @@ bytes_of n = n / 256 ∷ n % 256 ∷ []
 abbrev pub encode_constraint : Constraint → List ℕ
 encode_constraint r = map (unsigned 128) r.coefficients ++ bytes_of (unsigned 32768 r.most)
 
--- "a least length, and a set of letters"; "Sheet version 2 has, after the limits, two bytes for each field"
-abbrev pub encode_domain : Domain → List ℕ
-encode_domain d = d.least ∷ d.members ∷ []
-
-abbrev pub encode_domains : Sheet → List ℕ
-encode_domains s = when (eqb s.version 2) (each s.domains encode_domain)
-
--- what a sheet's header says
+-- the four counts that a sheet's header has
 abbrev pub counts_of : Sheet → Counts
 counts_of s = record {
-  version = s.version;
   letter_count = length s.letters;
   field_count = length s.limits;
   equation_count = length s.equations;
   constraint_count = length s.constraints;
 }
 
--- "Offset 0: the mark .. . Offset 3: version, 16 bits", "Offsets 5 to 8": the four counts
+-- "Offset 0: the mark .. . Offset 3: version, 16 bits, 1." "Offsets 5 to 8": the four counts
 abbrev pub header : Counts → List ℕ
-header c = mark ++ (bytes_of c.version ++ (c.letter_count ∷ c.field_count ∷ c.equation_count ∷ c.constraint_count ∷ []))
+header c = mark ++ (bytes_of 1 ++ (c.letter_count ∷ c.field_count ∷ c.equation_count ∷ c.constraint_count ∷ []))
 
 unfoldable pub encode : Sheet → List ℕ
 encode s =
-    header (counts_of s) ++ (s.letters ++ (s.limits ++ (encode_domains s ++ (each s.equations encode_equation ++ each s.constraints encode_constraint))))
+    header (counts_of s) ++ (s.letters ++ (s.limits ++ (each s.equations encode_equation ++ each s.constraints encode_constraint)))
 
 -- "A sheet is accepted when it breaks none of the rules under Reading."
 abbrev pub is_accepted : Reading → Bool
@@ -332,7 +275,7 @@ Accepted b = is_accepted (read b) ≡ true
 -- The sheet that accepted bytes say (of others, one with nothing in it).
 abbrev pub sheet_in : Reading → Sheet
 sheet_in (accepted s) = s
-sheet_in (refused n) = record { version = 1; letters = []; limits = []; domains = []; equations = []; constraints = [] }
+sheet_in (refused n) = record { letters = []; limits = []; equations = []; constraints = [] }
 
 unfoldable pub sheet_of : List ℕ → Sheet
 sheet_of b = sheet_in (read b)

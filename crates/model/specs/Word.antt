@@ -1,8 +1,8 @@
 -- What a sheet asks: substitutions, the words that they spell, and which of them solve the sheet.
-use Rattle.std.specs.Prelude.{◌≡◌, Bool, true, false, ◌&&◌, List, [], ◌∷◌, map, ℕ, zero, suc, ◌<◌, ◌≤◌, leb, eqb, ℤ, pos, ◌+ℤ◌, ◌*ℤ◌, length, get_or, ◌≤ℤ◌}
+use Rattle.std.specs.Prelude.{◌≡◌, Bool, true, false, ◌&&◌, List, [], ◌∷◌, map, ℕ, zero, suc, ◌<◌, ◌≤◌, eqb, ℤ, pos, ◌+ℤ◌, ◌*ℤ◌, length, get_or, ◌≤ℤ◌}
 use Rattle.std.specs.Int.Signed.{le_z}
-use Rattle.model.specs.Lists.{each, up_to, All, all}
-use Rattle.model.specs.Sheet.{Symbol, letter, field, Equation, Constraint, Domain, has_bit, Sheet, letter_of, domain, coefficient}
+use Rattle.model.specs.Lists.{each, All, all}
+use Rattle.model.specs.Sheet.{Symbol, letter, field, Equation, Constraint, Sheet, letter_of, coefficient}
 
 -- A substitution (document 01: a filling): the fields' texts in order, a text being a list of letter numbers.
 abbrev pub Substitution : Type 0
@@ -59,20 +59,11 @@ weight r g (suc k) = weight r g k +ℤ coefficient r k *ℤ pos (length (text g 
 abbrev pub ConstraintHolds : Sheet → Substitution → Constraint → Type 0
 ConstraintHolds s g r = weight r g (length s.limits) ≤ℤ r.most
 
--- Document 02, No. 7: a least length and a set of letters, "A filling must keep both." A text of a domain, and a substitution whose texts are all of their
--- fields' domains. A field whose set is empty can only be empty.
-pub record InDomain (d : Domain) (t : List ℕ) : Type 0 where
-  pub long_enough : d.least ≤ length t
-  pub of_members : All (λ a. has_bit d.members a ≡ true) t
-
-abbrev pub FieldKeeps : Sheet → Substitution → ℕ → Type 0
-FieldKeeps s g f = InDomain (domain s f) (text g f)
-
+-- What fields ask of their texts beyond letters and limits: nothing in version 1.
 unfoldable pub Keeps : Sheet → Substitution → Type 0
-Keeps s g = All (FieldKeeps s g) (up_to (length s.limits))
+Keeps s g = Unit
 
--- "A filling clashes when, for every pair, both templates spell the same text, and every rule holds."; document 02, No. 7: "Passing, searching, clauses and
--- replies are from now on judged with kinds." That is, it solves the sheet's
+-- "A filling clashes when, for every pair, both templates spell the same text, and every rule holds." That is, it solves the sheet's
 -- word equations within the limits, and the linear length constraints (document 000: preliminaries, and "Adding Linear Length
 -- Constraints"). "One field has one text across all pairs": it is one g throughout.
 pub record Solves (s : Sheet) (g : Substitution) : Type 0 where
@@ -97,11 +88,8 @@ equation_holds s g e = same_word s (spell g e.left) (spell g e.right)
 unfoldable pub constraint_holds : Sheet → Substitution → Constraint → Bool
 constraint_holds s g r = le_z (weight r g (length s.limits)) r.most
 
-unfoldable pub field_keeps : Sheet → Substitution → ℕ → Bool
-field_keeps s g f = leb (domain s f).least (length (text g f)) && all (has_bit (domain s f).members) (text g f)
-
 unfoldable pub keeps : Sheet → Substitution → Bool
-keeps s g = all (field_keeps s g) (up_to (length s.limits))
+keeps s g = true
 
 -- whether a legal substitution solves the sheet
 unfoldable pub solves : Sheet → Substitution → Bool

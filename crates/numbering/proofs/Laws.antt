@@ -16,7 +16,7 @@ use Rattle.model.specs.Range.{InRange}
 use Rattle.formula.specs.Clause.{lowest, least, spread, fields}
 use Rattle.formula.specs.Numbering.{SumIn}
 use Rattle.model.proofs.Lists.{never}
-use Rattle.formula.proofs.Integers.{from_least, sum_in}
+use Rattle.formula.proofs.Integers.{from-least, sum_in}
 use Rattle.model.proofs.Sums.{abs_add}
 use Rattle.formula.proofs.Small.{fields-few, least-small, spread-small}
 use Rattle.scan.proofs.Machine.{small-fits, small_back}
@@ -45,7 +45,7 @@ negated_abs (negsuc a) = omega arith
 -- A sum of the first k fields under constraint r, and what it is above the least.
 module _ (s : Sheet) (ok : InRange s) (r k : ℕ) (h : r < length s.constraints) (few : k ≤ fields s) (n : ℤ) (inside : SumIn s (constraint s r) k n) where
   above : n -ℤ least s (constraint s r) k ≡ pos (nat_abs (n -ℤ least s (constraint s r) k))
-  above = ap (λ z. z -ℤ least s (constraint s r) k) inside.0 ∙ from_least (least s (constraint s r) k) (nat_abs (n -ℤ least s (constraint s r) k))
+  above = ap (λ z. z -ℤ least s (constraint s r) k) inside.0 ∙ from-least (least s (constraint s r) k) (nat_abs (n -ℤ least s (constraint s r) k))
 
   apart : nat_abs (n -ℤ least s (constraint s r) k) ≤ 192
   apart = omega (arith, inside.1, spread-small s ok r h k, fields-few s ok)

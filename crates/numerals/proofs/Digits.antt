@@ -13,7 +13,7 @@ use borrow.Author.Tests.{le-leb, lt-leb, leb-true}
 use Rattle.model.specs.Lists.{pick, between, all, All, starts_with}
 use Rattle.formula.specs.Dimacs.{with_figure, value_from, value_of}
 use Rattle.calls.specs.Reply.{figure, magnitude}
-use Rattle.model.proofs.Lists.{never, by_test, and_split, and_join, all_here, all-fails, all_whole, all_out, weaken}
+use Rattle.model.proofs.Lists.{never, by_test, and_split, and_join, all_here, all_fails, all_whole, all_out, weaken}
 use Rattle.formula.proofs.Figures.{Figure}
 use Rattle.numerals.proofs.Firsts.{starts, starts_not}
 
@@ -70,7 +70,7 @@ valued_nought ds low high e =
 module _ (ds : List ℕ) (i sum : ℕ) (s : Summed ds i sum) (low : 1 ≤ length ds) (high : length ds ≤ 9) where
   valued_other : i < length ds → figure (get_or ds i 0) ≡ false → valued ds ≡ 0
   valued_other h e =
-      rw (le-leb 1 (length ds) low, le-leb (length ds) 9 high, s.figures ∙ all-fails figure ds i 0 h e)
+      rw (le-leb 1 (length ds) low, le-leb (length ds) 9 high, s.figures ∙ all_fails figure ds i 0 h e)
 
   pub valued_below : i < length ds → get_or ds i 0 < 48 → valued ds ≡ 0
   valued_below h l = valued_other h (rw (lt-leb 48 (get_or ds i 0) l))

@@ -1,36 +1,31 @@
 // What an accepted sheet says, by number. Every function here requires an accepted sheet and a number of a part that it has. It knows nothing
 // of how a sheet comes to be accepted, nor of what it means.
-ghost use Rattle.std.specs.Prelude.{◌≡◌, map, ◌++◌, ◌+◌, ◌<◌, ◌≤◌, length, drop};
+ghost use Rattle.std.specs.Prelude.{◌≡◌, map, ◌++◌, ◌<◌, ◌≤◌, length, drop};
 ghost use Rattle.model.specs.Lists.{each, Holds};
-ghost use Rattle.model.specs.Sheet.{symbol_byte, encode_equation, encode_constraint, Accepted, sheet_of, letter_of, domain};
+ghost use Rattle.model.specs.Sheet.{symbol_byte, encode_equation, encode_constraint, Accepted, sheet_of, letter_of};
 ghost use Rattle.model.specs.Sheet as model;
 ghost use Rattle.parts.specs.Counts.{counts_of};
 
 use scan::{
-    CONSTRAINT_COUNT, EQUATION_COUNT, FIELD_COUNT, HEADER, LETTER_COUNT, VERSION_LOW, signed_byte,
-    signed_pair, stretch, wide,
+    CONSTRAINT_COUNT, EQUATION_COUNT, FIELD_COUNT, HEADER, LETTER_COUNT, signed_byte, signed_pair,
+    stretch, wide,
 };
 
-// The version and the four counts of a sheet.
+// The four counts of a sheet.
 #[derive(Drop)]
 pub struct Counts {
-    pub version: u8,
     pub letters: u8,
     pub fields: u8,
     pub equations: u8,
     pub constraints: u8,
 }
 
-// The version that has no bytes for domains.
-pub const VERSION_ONE: u8 = 1;
-
-// The version and the four counts.
+// The four counts.
 pub fn four_counts(sheet: &[u8]) -> Counts
     requires { Accepted sheet.now }
     ensures { counts_of result ≡ model.counts_of (sheet_of sheet.now) }
 {
     Counts {
-        version: sheet[VERSION_LOW],
         letters: sheet[LETTER_COUNT],
         fields: sheet[FIELD_COUNT],
         equations: sheet[EQUATION_COUNT],
@@ -55,58 +50,14 @@ pub fn limit(sheet: &[u8], f: usize) -> u8
     sheet[HEADER + letters + f]
 }
 
-// The offset past the limits: of the domains in version 2, two bytes for each field.
-fn past_limits(sheet: &[u8]) -> usize
-    requires { Accepted sheet.now }
-    ensures { result ≡ 9 + length (sheet_of sheet.now).letters + length (sheet_of sheet.now).limits }
-{
-    let letters = wide(sheet[LETTER_COUNT]);
-    let fields = wide(sheet[FIELD_COUNT]);
-    HEADER + letters + fields
-}
-
-// The least length of field f.
-pub fn least(sheet: &[u8], f: usize) -> u8
-    requires { Accepted sheet.now × (f < length (sheet_of sheet.now).limits) }
-    ensures { result ≡ (domain (sheet_of sheet.now) f).least }
-{
-    if sheet[VERSION_LOW] == VERSION_ONE {
-        return 0;
-    }
-    let at = past_limits(sheet);
-    sheet[at + f * 2]
-}
-
-// The letters that field f admits, as a set.
-pub fn members(sheet: &[u8], f: usize) -> u8
-    requires { Accepted sheet.now × (f < length (sheet_of sheet.now).limits) }
-    ensures { result ≡ (domain (sheet_of sheet.now) f).members }
-{
-    if sheet[VERSION_LOW] == VERSION_ONE {
-        return sets::all(sheet[LETTER_COUNT]);
-    }
-    let at = past_limits(sheet);
-    sheet[at + f * 2 + 1]
-}
-
-// The offset of the first equation.
-fn first_entry(sheet: &[u8]) -> usize
-    requires { Accepted sheet.now }
-    ensures { Holds sheet.now result (each (sheet_of sheet.now).equations encode_equation ++ each (sheet_of sheet.now).constraints encode_constraint) }
-{
-    let at = past_limits(sheet);
-    if sheet[VERSION_LOW] == VERSION_ONE {
-        return at;
-    }
-    at + wide(sheet[FIELD_COUNT]) * 2
-}
-
 // The offset of equation p or, where p is the equation count, of the first constraint.
 fn entry_at(sheet: &[u8], p: usize) -> usize
     requires { Accepted sheet.now × (p ≤ length (sheet_of sheet.now).equations) }
     ensures { Holds sheet.now result (each (drop p (sheet_of sheet.now).equations) encode_equation ++ each (sheet_of sheet.now).constraints encode_constraint) }
 {
-    let mut at = first_entry(sheet);
+    let letters = wide(sheet[LETTER_COUNT]);
+    let fields = wide(sheet[FIELD_COUNT]);
+    let mut at = HEADER + letters + fields;
     let mut i: usize = 0;
     while i < p {
         let left = wide(sheet[at]);

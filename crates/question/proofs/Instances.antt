@@ -1,74 +1,29 @@
 -- Instances of the start are the substitutions with those lengths: an instance holds a filling of the sheet, and every legal substitution is
 -- what some instance means, a name being read as the letter at its place. Assumes nothing.
-use mathlib.Core.Path.{◌≡◌, refl, sym, ap, ap₂, subst, ◌∙◌}
-use mathlib.Core.Bool.{true}
+use mathlib.Core.Path.{◌≡◌, refl, sym, ap, ◌∙◌}
 use mathlib.Core.List.{List, []}
-use mathlib.Core.Logic.{◌⊎◌, inl, inr}
-use Prim.Native.Nat.{ℕ, ◌+◌, ◌-◌, ◌*◌, ◌/◌, ◌%◌, ◌^◌, ◌<◌, ◌≤◌}
+use Prim.Native.Nat.{ℕ, ◌+◌, ◌-◌, ◌*◌, ◌/◌, ◌%◌, ◌<◌, ◌≤◌}
 use native.Mathlib.Omega.{arith}
 use lib.Dec.{ltb, eqb}
-use lib.Pow.{pow_pos}
 use lib.ListN.{length, get_or, drop, replicate, length-map, length-drop, length-replicate, get_or-replicate, get_or-map, get_or-eq_default}
 use lib.Seq.{get_or-take, get_or-drop, length-take-le, ext_get_or}
 use borrow.Author.Tests.{ltb-true, ltb-false, eqb-true, lt-ltb, le-ltb, ne_eqb}
 use Rattle.model.specs.Lists.{pick, All}
-use Rattle.model.specs.Sheet.{Domain, Sheet, has_bit, limit, domain, sheet_of}
-use Rattle.model.specs.Range.{InRange, Admitted}
+use Rattle.model.specs.Sheet.{Sheet, limit, sheet_of}
+use Rattle.model.specs.Range.{Admitted}
 use Rattle.model.specs.Word.{Substitution, text, Legal}
-use Rattle.model.proofs.Lists.{never, by_test, at, from_at}
-use Rattle.model.proofs.Bits.{no_higher_bit}
+use Rattle.model.proofs.Lists.{by_test, at, from_at}
 use Rattle.formula.proofs.Small.{letters-few, fields-few, limit-small}
 use Rattle.fields.specs.declared.Field.{Field}
 use Rattle.fields.specs.Memory.{text_of, texts_of, field, Whole, meaning, Held}
-use Rattle.unification.specs.Names.{app, map_field, no_field, value_of, Refining}
-use Rattle.unification.proofs.Laws.{pick_ind, Renamed, value_renamed}
+use Rattle.unification.specs.Names.{app, map_field, no_field, Refining}
+use Rattle.unification.proofs.Laws.{pick_ind}
 use Rattle.walk.specs.Reading.{name_of, fresh_of, start_of}
-use Rattle.walk.proofs.Renewing.{at8, start-field, start-value}
-use Rattle.letters.specs.Letters.{Member, KeepsSets}
+use Rattle.walk.proofs.Renewing.{at8, start-field}
+use Rattle.trails.proofs.Attempts.{Instance}
 use Rattle.inequalities.specs.Asked.{lengths_of}
 use Rattle.inequalities.proofs.Asked.{lengths_at}
-use Rattle.question.specs.Ask.{SetsOf, OfMembers}
-use Rattle.question.proofs.Words.{text-length, value-at, meaning-at}
-
--- An instance of the start: every place within the lengths n holds a letter below l.
-pub record Instance (l : ℕ) (n : List ℕ) (h : List Field) : Type 0 where
-  pub by : ℕ → ℕ
-  pub refines : Refining by
-  pub letter : (f c : ℕ) → f < 6 → c < 8 → c < get_or n f 0 → by (8 + 8 * f + c) < l
-  pub is : h ≡ app by (start_of n)
-
--- A set of a field has letters below l alone.
-module _ (s : Sheet) (ok : InRange s) where
-  set_below : (f : ℕ) → (domain s f).members < 2 ^ length s.letters
-  set_below f =
-      by_test (ltb f (length s.limits))
-      (λ e. (ok.domains_in.each_in f (ltb-true f (length s.limits) e)).members_in)
-      (λ e.
-      let past : length s.domains ≤ f = let l = ltb-false f (length s.limits) e in let n = ok.domains_in.one_each in omega arith in
-      let none = ap (λ (d : Domain). d.members) (get_or-eq_default s.domains (record { least = 0; members = 0 }) past) in
-      let some = pow_pos (length s.letters) in
-      omega arith)
-
-  member_below : (f a : ℕ) → has_bit (domain s f).members a ≡ true → a < length s.letters
-  member_below f a e =
-      by_test (ltb a (length s.letters))
-      (λ t. ltb-true a (length s.letters) t)
-      (λ t. never (sym (no_higher_bit (length s.letters) (domain s f).members a (set_below f) (ltb-false a (length s.letters) t)) ∙ e))
-
-  -- so the start under a renaming is an instance, where it keeps the sets
-  pub instance_in : (sets : List ℕ) → SetsOf s sets → (n : List ℕ) (h : List Field) → Renamed (start_of n) h → KeepsSets sets h → Instance (length s.letters) n h
-  instance_in sets are n h how keeps = record {
-    by = how.by;
-    refines = how.refines;
-    letter = λ f c i j m. by f c i j (value_renamed how (8 + 8 * f + c) ∙ ap how.by (start-value n f c i j m)) (subst (Member (get_or sets f 0)) (sym (value-at h f c j)) (keeps f c i j));
-    is = how.is;
-  }
-    where
-      by : (f c : ℕ) → f < 6 → c < 8 → value_of h (8 + 8 * f + c) ≡ how.by (8 + 8 * f + c) → Member (get_or sets f 0) (value_of h (8 + 8 * f + c)) → how.by (8 + 8 * f + c) < length s.letters
-      by f c i j is (inl e) = let blank = how.refines.solid (8 + 8 * f + c) (sym is ∙ e) in absurd (omega arith)
-      by f c i j is (inr (small, e)) =
-          let z : has_bit (domain s f).members (how.by (8 + 8 * f + c)) ≡ true = sym (ap₂ has_bit (are f i) is) ∙ e in
-          member_below f (how.by (8 + 8 * f + c)) z
+use Rattle.question.proofs.Words.{text-length, meaning-at}
 
 -- An instance's fields: whole, with the lengths n, and letters below l.
 module _ (l : ℕ) (n : List ℕ) (h : List Field) (i : Instance l n h) (short : (f : ℕ) → f < 6 → get_or n f 0 ≤ 8) where
@@ -225,13 +180,6 @@ module _ (b : List ℕ) (ok : Admitted b) (g : Substitution) (legal : Legal (she
       (λ e. (legal.admits f (ltb-true f (length t.limits) e)).no_longer)
       (λ e. rw (text-none f (ltb-false f (length t.limits) e)) (omega arith)))
 
-  -- a field with a letter is one that the sheet has
-  field-inside : (f c : ℕ) → c < length (text g f) → f < length t.limits
-  field-inside f c less =
-      by_test (ltb f (length t.limits))
-      (λ e. ltb-true f (length t.limits) e)
-      (λ e. let none = ap length (text-none f (ltb-false f (length t.limits) e)) in absurd (omega arith))
-
   abbrev memory : List Field
   memory = app (reader g) (start_of (lengths_of g))
 
@@ -241,28 +189,15 @@ module _ (b : List ℕ) (ok : Admitted b) (g : Substitution) (legal : Legal (she
     refines = reader_refines;
     letter = λ f c h k m.
         let less : c < length (text g f) = rw (lengths_at g f h) at m in
-        rw (reader_at f c h k) (at (λ a. a < length t.letters) (text g f) c 0 (legal.admits f (field-inside f c less)).over_letters less);
+        let inside : f < length t.limits = by_test (ltb f (length t.limits))
+        (λ e. ltb-true f (length t.limits) e)
+        (λ e. let none = ap length (text-none f (ltb-false f (length t.limits) e)) in absurd (omega arith)) in
+        rw (reader_at f c h k) (at (λ a. a < length t.letters) (text g f) c 0 (legal.admits f inside).over_letters less);
     is = refl;
   }
 
   pub memory_refines : Refining (reader g)
   memory_refines = reader_refines
-
-  -- what stands at a place of it is a letter of its field's text, and 255 past its end
-  pub memory_keeps : (sets : List ℕ) → SetsOf t sets → OfMembers t g → KeepsSets sets memory
-  unfolding as_instance
-  memory_keeps sets are members f c h k =
-      subst (Member (get_or sets f 0)) (sym (letter_at (length t.letters) (lengths_of g) memory as_instance small f h c k))
-      (pick_ind (λ z. Member (get_or sets f 0) (reader g z)) (ltb c (get_or (lengths_of g) f 0))
-      (λ e.
-      let less : c < length (text g f) = let m = ltb-true c (get_or (lengths_of g) f 0) e in let q = lengths_at g f h in omega arith in
-      let inside = field-inside f c less in
-      let here = at (λ a. has_bit (domain t f).members a ≡ true) (text g f) c 0 (members f inside) less in
-      inr (subst (λ a. (a < 8) × (has_bit (get_or sets f 0) a ≡ true)) (sym (reader_at f c h k)) (letter-small f c, ap (λ n. has_bit n (get_or (text g f) c 0)) (are f h) ∙ here)))
-      (λ _. inl memory_refines.blank))
-    where
-      small : (f : ℕ) → f < 6 → get_or (lengths_of g) f 0 ≤ 8
-      small f k = let a = text_size f k in let c = limit-small t ok.1 f in omega arith
 
   pub memory_held : Held b memory
   memory_held = instance_held b ok (lengths_of g) memory as_instance text_size

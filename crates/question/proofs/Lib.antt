@@ -1,4 +1,3 @@
-pub mod Copied
 pub mod Words
 pub mod Instances
 pub mod Vectors

@@ -1,8 +1,8 @@
--- What is asked of the search: lengths in ranges, letters in the fields' sets, and some of a sheet's equations and constraints.
-use Rattle.std.specs.Prelude.{◌≡◌, Bool, true, false, List, ℕ, ◌<◌, ◌≤◌, length, get_or}
+-- What is asked of the search: lengths in ranges, and some of a sheet's equations and constraints.
+use Rattle.std.specs.Prelude.{◌≡◌, Bool, true, false, List, ℕ, ◌<◌, ◌≤◌, get_or}
 use Rattle.model.specs.Lists.{All}
-use Rattle.model.specs.Sheet.{Sheet, has_bit, limit, domain, sheet_of}
-use Rattle.model.specs.Word.{Substitution, text, Legal, EquationHolds, ConstraintHolds}
+use Rattle.model.specs.Sheet.{Sheet, limit, sheet_of}
+use Rattle.model.specs.Word.{Substitution, Legal, EquationHolds, ConstraintHolds}
 use Rattle.model.specs.Order.{Earlier}
 use Rattle.fields.specs.Memory.{meaning, Held}
 use Rattle.unification.specs.declared.Found.{Found}
@@ -16,19 +16,10 @@ pub record Asking (s : Sheet) (a : Ask) : Type 0 where
   pub ranges : Some a.lo a.hi
   pub limited : (f : ℕ) → f < 6 → get_or a.hi f 0 ≤ limit s f
 
--- one set for each field, of the letters that it admits (none for fields that the sheet does not have)
-abbrev pub SetsOf : Sheet → List ℕ → Type 0
-SetsOf s sets = (f : ℕ) → f < 6 → get_or sets f 0 ≡ (domain s f).members
-
--- all letters of a field's text are in its set; least lengths are a matter of the ranges
-abbrev pub OfMembers : Sheet → Substitution → Type 0
-OfMembers s g = (f : ℕ) → f < length s.limits → All (λ a. has_bit (domain s f).members a ≡ true) (text g f)
-
--- g is a legal substitution with lengths in the ranges and letters in the fields' sets, under which the asked equations and constraints hold
+-- g is a legal substitution with lengths in the ranges, under which the asked equations and constraints hold
 pub record Answers (s : Sheet) (a : Ask) (g : Substitution) : Type 0 where
   pub is_legal : Legal s g
   pub within : Within a.lo a.hi (lengths_of g)
-  pub of_members : OfMembers s g
   pub equations_hold : All (EquationHolds s g) (asked a.equations s.equations)
   pub constraints_hold : All (ConstraintHolds s g) (asked a.constraints s.constraints)
 

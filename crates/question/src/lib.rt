@@ -3,13 +3,10 @@
 // reversed.
 ghost use Rattle.model.specs.Sheet.{sheet_of};
 ghost use Rattle.model.specs.Range.{Admitted};
-ghost use Rattle.question.specs.Ask.{Asking, SetsOf, Finds};
+ghost use Rattle.question.specs.Ask.{Asking, Finds};
 
-use boxes::Alphabets;
 use fields::Lengths;
 use inequalities::{Marks, ROOM};
-use letters::Sets;
-use scan::wide;
 use sides::{CELLS, WIDTHS};
 use unification::Found;
 
@@ -20,50 +17,6 @@ pub struct Ask {
     pub hi: Lengths,
     pub equations: Marks,
     pub constraints: Marks,
-}
-
-// The letters that each field admits, as a set; none for fields that the sheet does not have.
-fn members(sheet: &[u8]) -> Sets
-    requires { Admitted sheet.now }
-    ensures { SetsOf (sheet_of sheet.now) result }
-{
-    let fields = shape::fields(sheet);
-    let mut n: Sets = [0; 6];
-    let mut f: usize = 0;
-    while f < fields {
-        n[f] = parts::members(sheet, f);
-        f += 1;
-    }
-    n
-}
-
-// Whether some field does not admit all letters.
-fn some_restricted(sheet: &[u8], members: Sets) -> bool
-    requires { Admitted sheet.now }
-{
-    let letters = shape::letters(sheet);
-    let fields = shape::fields(sheet);
-    let mut f: usize = 0;
-    while f < fields {
-        if wide(sets::ones(members[f])) < letters {
-            return true;
-        }
-        f += 1;
-    }
-    false
-}
-
-// The letters that each field admits. Boxes are cut by them where they leave out some letter.
-fn alphabets_of(sheet: &[u8]) -> Alphabets
-    requires { Admitted sheet.now }
-    ensures { SetsOf (sheet_of sheet.now) result.sets }
-{
-    let members = members(sheet);
-    let cut = some_restricted(sheet, members);
-    Alphabets {
-        sets: members,
-        cut: cut,
-    }
 }
 
 // A substitution that answers what is asked, where there is one: the first in document 02's order (No. 1), if that is asked for; else any one.
@@ -86,14 +39,12 @@ pub fn find(sheet: &[u8], ask: Ask, first: bool) -> Found
     let widths = behind.widths;
     let lo = ask.lo;
     let hi = ask.hi;
-    let alphabets = alphabets_of(sheet);
     lengths::first(
         &x[..cells],
         &y[..turned],
         &w[..widths],
         &rows,
         count,
-        alphabets,
         lo,
         hi,
         first,

@@ -1,26 +1,72 @@
--- The lines of the parts, one after another, are the model's file. Assumes nothing.
-use mathlib.Core.Path.{◌≡◌, ap, ap₂, ◌∙◌}
-use mathlib.Core.List.{List, [], ◌∷◌, ◌++◌}
-use Prim.Native.Nat.{ℕ, suc, ◌+◌, ◌-◌}
+-- The lines of the parts, one after another, are the model's file; the lines of a place, by the code of its value 0. Assumes nothing.
+use mathlib.Core.Path.{◌≡◌, refl, sym, ap, ap₂, ◌∙◌}
+use mathlib.Core.Bool.{Bool, true, false}
+use mathlib.Core.List.{List, [], ◌∷◌, ◌++◌, append-nil}
+use Prim.Native.Nat.{ℕ, suc, ◌+◌, ◌-◌, ◌*◌}
 use native.Mathlib.Omega.{arith}
+use lib.Dec.{ltb}
 use lib.IntN.{pos, ◌+ℤ◌}
 use lib.ListN.{length}
-use Rattle.model.specs.Lists.{each, from, up_to}
+use Rattle.model.specs.Lists.{each, from, up_to, when}
 use Rattle.model.specs.Sheet.{Sheet, limit, constraint}
 use Rattle.model.specs.Range.{WellFormed}
-use Rattle.formula.specs.Clause.{ClauseId, Start, Zero, Add, Bound, place_ids, least, spread, ids, none, fields, left_cells, right_cells}
+use Rattle.formula.specs.Clause.{K, ClauseId, SomeValue, NotBoth, BlankTail, Start, Zero, Add, Bound, terms, place_ids, not_both_ids, least, spread, ids, none, blank, fields, left_cells, right_cells}
 use Rattle.formula.specs.Count.{of_fields, of_equations, of_constraints, within}
+use Rattle.formula.specs.Numbering.{number}
 use Rattle.formula.specs.Dimacs.{line, file}
 use Rattle.model.proofs.Lists.{each_append}
 use Rattle.model.proofs.Keeping.{each_map, loop_same}
 use Rattle.model.proofs.Pieces.{each_from, each-each, each_at}
 use Rattle.formula.proofs.Totals.{field_part, location_part, row_part, equation_part, sum_part, step_part, bound_part, constraint_part, field_parts, equation_parts, constraint_parts, ids-are}
+use Rattle.dimacs.proofs.Coded.{terms-line}
 use Rattle.literals.specs.Name.{line_of}
 use Rattle.locations.specs.Lines.{lines_of, location_lines, row_lines, equation_lines}
-use Rattle.rendering.specs.Lines.{section_lines}
-use Rattle.values.specs.Lines.{place_lines, field_lines}
-use Rattle.values.proofs.Valued.{one_line}
+use Rattle.matching.specs.Codes.{unlike_line}
+use Rattle.rendering.specs.Lines.{place_lines, field_lines, section_lines}
 use Rattle.sums.specs.Lines.{sum_lines, step_lines, bound_line, bound_lines, constraint_lines}
+use Rattle.rendering.specs.Codes.{pair_lines}
+use Rattle.locations.proofs.Located.{value-number}
+
+-- The lines of a place.
+pair_codes : (s : Sheet) (f c first : ℕ) → first ≡ 2 * number s (K f c 0) → (a k : ℕ) → line_of s (NotBoth f c a (suc a + k)) ≡ unlike_line (first + 2 * a) first (a + 1) k
+unfolding terms unlike_line
+pair_codes s f c first e a k =
+    let x : 2 * number s (K f c a) + 1 ≡ first + 2 * a + 1 = omega (arith, value-number s f c a) in
+    let y : 2 * number s (K f c (suc a + k)) + 1 ≡ first + 2 * (a + 1 + k) + 1 = omega (arith, value-number s f c (suc a + k)) in
+    sym (terms-line s (NotBoth f c a (suc a + k))) ∙ rw (x, y)
+
+pairs-are : (s : Sheet) (f c first : ℕ) → first ≡ 2 * number s (K f c 0) → (a : ℕ) → lines_of s (not_both_ids s f c a) ≡ pair_lines first (blank s) a
+pairs-are s f c first e a =
+    let line : ℕ → List ℕ = λ b. line_of s (NotBoth f c a b) in
+    let z : suc a ≡ suc a + 0 = omega arith in
+    each_map (NotBoth f c a) (from (suc a) (blank s - a)) (line_of s)
+    ∙ ap (λ m. each (from m (blank s - a)) line) z
+    ∙ each_from line (suc a) 0 (blank s - a)
+    ∙ loop_same (λ k. line (suc a + k)) (unlike_line (first + 2 * a) first (a + 1)) (blank s - a) (λ k _. pair_codes s f c first e a k)
+
+-- one line; one line under a test
+one_line : (s : Sheet) (q : ClauseId) → lines_of s (q ∷ []) ≡ line_of s q
+unfolding each
+one_line s q = append-nil (line_of s q)
+
+when-line : (s : Sheet) (b : Bool) (q : ClauseId) → lines_of s (when b (q ∷ [])) ≡ when b (line_of s q)
+unfolding each
+when-line s true q = one_line s q
+when-line s false q = refl
+
+pub place-lines : (s : Sheet) (f c first l : ℕ) → first ≡ 2 * number s (K f c 0) → l ≡ blank s
+    → place_lines s f c ≡ line_of s (SomeValue f c) ++ (each (up_to (suc l)) (pair_lines first l) ++ when (ltb (suc c) (limit s f)) (line_of s (BlankTail f c)))
+unfolding place_lines place_ids
+place-lines s f c first l e el =
+    let pairs : List ClauseId = each (up_to (suc (blank s))) (not_both_ids s f c) in
+    let tail : List ClauseId = when (ltb (suc c) (limit s f)) (BlankTail f c ∷ []) in
+    rw el (each_append (line_of s) (SomeValue f c ∷ []) (pairs ++ tail)
+    ∙ ap₂ ◌++◌ (one_line s (SomeValue f c))
+    (each_append (line_of s) pairs tail
+    ∙ ap₂ ◌++◌
+    (each-each (up_to (suc (blank s))) (not_both_ids s f c) (line_of s)
+    ∙ loop_same (λ a. lines_of s (not_both_ids s f c a)) (pair_lines first (blank s)) (suc (blank s)) (λ a _. pairs-are s f c first e a))
+    (when-line s (ltb (suc c) (limit s f)) (BlankTail f c))))
 
 -- The lines of each part are those of its clauses.
 module _ (s : Sheet) where

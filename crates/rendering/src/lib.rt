@@ -1,18 +1,67 @@
 // The whole clause file of an accepted sheet, written into a lent buffer part by part. A function that writes returns the offset past what it has
 // written.
-ghost use Rattle.std.specs.Prelude.{◌+◌, ◌<◌, ◌≤◌, length};
-ghost use Rattle.model.specs.Lists.{Puts};
+ghost use Rattle.std.specs.Prelude.{suc, ◌+◌, ◌<◌, ◌≤◌, length};
+ghost use Rattle.model.specs.Lists.{each, up_to, Puts};
 ghost use Rattle.model.specs.Sheet.{sheet_of};
 ghost use Rattle.model.specs.Range.{Admitted};
+ghost use Rattle.formula.specs.Clause.{fields};
+ghost use Rattle.formula.specs.Numbering.{PlaceIn};
 ghost use Rattle.formula.specs.Count.{parts};
 ghost use Rattle.formula.specs.Dimacs.{file};
 ghost use Rattle.shape.specs.Name.{section_of};
-ghost use Rattle.rendering.specs.Lines.{part_lines, section_lines};
+ghost use Rattle.dimacs.specs.Codes.{most_code};
+ghost use Rattle.rendering.specs.Lines.{place_lines, field_lines, part_lines, section_lines};
+ghost use Rattle.rendering.specs.Codes.{pair_lines};
 
+use literals::{ClauseId, put_clause};
 use locations::put_equation;
+use matching::put_unlike;
 use shape::Section;
 use sums::put_constraint;
-use values::put_field;
+
+// Not two values at once, each two.
+fn put_all_pairs(buf: &mut [u8], at: usize, first: usize, letters: usize) -> usize
+    requires { (first ≤ most_code) × (letters ≤ 8) × (at + length (each (up_to (suc letters)) (pair_lines first letters)) ≤ length buf.old) }
+    ensures { Puts buf.old at (each (up_to (suc letters)) (pair_lines first letters)) buf.new result }
+{
+    let mut past = at;
+    let mut a: usize = 0;
+    while a <= letters {
+        past = put_unlike(buf, past, first + 2 * a, first, a + 1, letters - a);
+        a += 1;
+    }
+    past
+}
+
+// Place c of field f.
+fn put_place(buf: &mut [u8], at: usize, sheet: &[u8], f: usize, c: usize) -> usize
+    requires { Admitted sheet.now × PlaceIn (sheet_of sheet.now) f c × (at + length (place_lines (sheet_of sheet.now) f c) ≤ length buf.old) }
+    ensures { Puts buf.old at (place_lines (sheet_of sheet.now) f c) buf.new result }
+{
+    let letters = shape::letters(sheet);
+    let first = 2 * numbering::place_number(sheet, f, c, 0);
+    let some = put_clause(buf, at, sheet, ClauseId::SomeValue(f, c));
+    let past = put_all_pairs(buf, some, first, letters);
+    if c + 1 < shape::limit(sheet, f) {
+        return put_clause(buf, past, sheet, ClauseId::BlankTail(f, c));
+    }
+    past
+}
+
+// Field f.
+fn put_field(buf: &mut [u8], at: usize, sheet: &[u8], f: usize) -> usize
+    requires { Admitted sheet.now × (f < fields (sheet_of sheet.now)) × (at + length (field_lines (sheet_of sheet.now) f) ≤ length buf.old) }
+    ensures { Puts buf.old at (field_lines (sheet_of sheet.now) f) buf.new result }
+{
+    let limit = shape::limit(sheet, f);
+    let mut past = at;
+    let mut c: usize = 0;
+    while c < limit {
+        past = put_place(buf, past, sheet, f, c);
+        c += 1;
+    }
+    past
+}
 
 // Part i of a section: a field, an equation, a constraint.
 fn put_part(buf: &mut [u8], at: usize, sheet: &[u8], section: Section, i: usize) -> usize

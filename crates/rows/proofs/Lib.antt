@@ -1,3 +1,2 @@
 mod Tests
 mod Rows
-pub mod Told

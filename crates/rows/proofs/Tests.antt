@@ -1,14 +1,12 @@
 -- Tests that the code writes in another way than the definitions do. Assumes nothing.
 use mathlib.Core.Path.{◌≡◌, refl, sym, ◌∙◌}
 use mathlib.Core.Bool.{true, false}
-use Prim.Native.Nat.{ℕ, suc, ◌+◌, ◌-◌, ◌/◌, ◌^◌, ◌≤◌}
-use native.Mathlib.Nat.{div-eq_of_lt, le-div_iff_mul-le}
+use Prim.Native.Nat.{ℕ, suc, ◌+◌, ◌-◌, ◌≤◌}
 use native.Mathlib.Omega.{arith}
-use lib.Dec.{ltb, leb, eqb}
-use lib.Pow.{pow_pos}
+use lib.Dec.{ltb, leb}
 use lib.IntN.{ℤ, pos, negsuc, nat_abs}
 use lib.Signed.{lt_z, le_z}
-use borrow.Author.Tests.{lt-ltb, le-ltb, le-leb, lt-leb, ltb-true, ltb-false, eq-eqb, ne_eqb}
+use borrow.Author.Tests.{lt-ltb, le-ltb, le-leb, lt-leb, ltb-true, ltb-false}
 use Rattle.model.proofs.Lists.{never, by_test}
 
 -- a difference below a number
@@ -26,11 +24,3 @@ below_range (negsuc n) h = let g = ltb-true 3 n h in sym (lt-leb (suc n) 4 (omeg
 pub from_range : (z : ℤ) → lt_z z (negsuc 3) ≡ false → le_z z (pos 4) ≡ leb (nat_abs z) 4
 from_range (pos n) h = refl
 from_range (negsuc n) h = let g = ltb-false 3 n h in sym (le-leb (suc n) 4 (omega arith))
-
--- without its last l digits a number is 0 exactly when it is below 2 to the l
-pub none_above : (l x : ℕ) → eqb (x / 2 ^ l) 0 ≡ ltb x (2 ^ l)
-none_above l x = by_test (ltb x (2 ^ l))
-    (λ t. rw t (eq-eqb (x / 2 ^ l) 0 (div-eq_of_lt (ltb-true x (2 ^ l) t))))
-    (λ t.
-    let some : 1 ≤ x / 2 ^ l = (le-div_iff_mul-le (pow_pos l)).1 (let h = ltb-false x (2 ^ l) t in omega arith) in
-    rw t (ne_eqb (x / 2 ^ l) 0 (λ e. omega arith)))

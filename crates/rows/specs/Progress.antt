@@ -1,22 +1,19 @@
 -- How far a row came, in the model's words. What was read is not said again: the bytes passed over say it.
 use Rattle.std.specs.Prelude.{◌≡◌, List, ℕ, ◌≤◌, length, drop}
 use Rattle.model.specs.Sheet as model
-use Rattle.model.specs.Sheet.{Step, got, fault, letter_byte, limit_byte, least_byte, set_byte, count_byte, template_byte, coefficient_byte, most_byte}
+use Rattle.model.specs.Sheet.{Step, got, fault, letter_byte, limit_byte, count_byte, template_byte, coefficient_byte, most_byte}
 use Rattle.rows.specs.declared.Fault.{Fault}
 use Rattle.rows.specs.declared.Fault.TheVariants as faults
 use Rattle.rows.specs.declared.Role.{Role}
-use Rattle.rows.specs.declared.Role.TheVariants.{Letter, Limit, Least, Members, SymbolCount, Symbol, Coefficient, Most}
+use Rattle.rows.specs.declared.Role.TheVariants.{Letter, Limit, SymbolCount, Symbol, Coefficient, Most}
 use Rattle.rows.specs.declared.Progress.{Progress}
 use Rattle.rows.specs.declared.Progress.TheVariants.{At, Stopped}
 
--- "8 the next byte needed is missing; 10 letter out of range or not rising; 11 limit; 12 symbol count; 13 symbol; 14 width ..; 15 coefficient". Document 02, No. 7: "46
--- when a least length is above its limit. 47 when a set has a bit at or above L"
+-- "8 the next byte needed is missing; 10 letter out of range or not rising; 11 limit; 12 symbol count; 13 symbol; 14 width ..; 15 coefficient"
 abbrev pub number_of : Fault → ℕ
 number_of faults.Missing = 8
 number_of faults.Letter = 10
 number_of faults.Limit = 11
-number_of faults.LeastLength = 46
-number_of faults.LetterSet = 47
 number_of faults.SymbolCount = 12
 number_of faults.Symbol = 13
 number_of faults.Width = 14
@@ -25,8 +22,6 @@ number_of faults.Coefficient = 15
 abbrev pub role_of : Role → model.Role
 role_of Letter = letter_byte
 role_of Limit = limit_byte
-role_of (Least limit) = least_byte limit
-role_of (Members l) = set_byte l
 role_of SymbolCount = count_byte
 role_of (Symbol l v) = template_byte l v
 role_of Coefficient = coefficient_byte

@@ -1,6 +1,6 @@
 // A row of bytes of one role, read from an offset on: to its end, or to the first fault. Knows nothing of what rows a sheet has.
 ghost use Rattle.std.specs.Prelude.{◌≡◌, ◌+◌, ◌≤◌, length, drop};
-ghost use Rattle.model.specs.Sheet.{letter_byte, set_byte, template_byte, coefficient_byte, passes, refusal_of, rest};
+ghost use Rattle.model.specs.Sheet.{letter_byte, template_byte, coefficient_byte, passes, refusal_of, rest};
 ghost use Rattle.model.specs.Sheet as model;
 ghost use Rattle.rows.specs.Progress.{number_of, left, role_of, HasLanded};
 
@@ -12,22 +12,17 @@ pub enum Fault {
     Missing,
     Letter,
     Limit,
-    LeastLength,
-    LetterSet,
     SymbolCount,
     Symbol,
     Width,
     Coefficient,
 }
 
-// What a byte of the walk stands for. A least length's role has its field's limit, a set's the letter count, and a symbol's the letter count and the field
-// count.
+// What a byte of the walk stands for. A symbol's role has the letter count and the field count.
 #[derive(Drop)]
 pub enum Role {
     Letter,
     Limit,
-    Least(u8),
-    Members(u8),
     SymbolCount,
     Symbol(u8, u8),
     Coefficient,
@@ -41,14 +36,12 @@ pub enum Progress {
     Stopped(Fault),
 }
 
-// The ranges: a letter's byte, a limit, a set's bits, a symbol count, a coefficient.
+// Document 01's ranges: a letter's byte, a limit, a symbol count, a coefficient.
 const LEAST_LETTER: u8 = 33;
 
 const GREATEST_LETTER: u8 = 126;
 
 const GREATEST_LIMIT: u8 = 8;
-
-const BITS: u8 = 8;
 
 const MOST_SYMBOLS: u8 = 12;
 
@@ -67,16 +60,6 @@ fn letter_passes(before: u8, x: u8) -> bool
         return false;
     }
     before < x
-}
-
-// Whether x is a set of so many letters: it has no bit at or above their number.
-fn set_passes(letters: u8, x: u8) -> bool
-    ensures { result ≡ passes (set_byte letters) 0 x }
-{
-    if BITS <= letters {
-        return true;
-    }
-    x >> letters == 0
 }
 
 // Whether x is a symbol of a sheet with so many letters and fields.
@@ -110,8 +93,6 @@ fn role_passes(role: Role, before: u8, x: u8) -> bool
     match role {
         Role::Letter => letter_passes(before, x),
         Role::Limit => x <= GREATEST_LIMIT,
-        Role::Least(limit) => x <= limit,
-        Role::Members(letters) => set_passes(letters, x),
         Role::SymbolCount => x <= MOST_SYMBOLS,
         Role::Symbol(letters, fields) => symbol_passes(letters, fields, x),
         Role::Coefficient => coefficient_passes(x),
@@ -126,8 +107,6 @@ fn role_fault(role: Role) -> Fault
     match role {
         Role::Letter => Fault::Letter,
         Role::Limit => Fault::Limit,
-        Role::Least(_) => Fault::LeastLength,
-        Role::Members(_) => Fault::LetterSet,
         Role::SymbolCount => Fault::SymbolCount,
         Role::Symbol(_, _) => Fault::Symbol,
         Role::Coefficient => Fault::Coefficient,

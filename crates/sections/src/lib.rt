@@ -4,8 +4,7 @@ ghost use Rattle.std.specs.Prelude.{◌≡◌, map, ◌+◌, ◌<◌, ◌≤◌,
 ghost use Rattle.model.specs.Sheet.{symbol_of, cells_of, width, rest, times};
 ghost use Rattle.model.specs.Sheet as model;
 ghost use Rattle.rows.specs.Progress.{left, HasLanded, within};
-ghost use Rattle.sections.specs.Sections.{counts_of, entry_of, entries_from, tables_of};
-ghost use Rattle.domain_read.specs.Limits.{limits_in};
+ghost use Rattle.sections.specs.Sections.{counts_of, limits_in, entry_of, tables_of};
 
 use rows::{Fault, Progress, Role, row};
 use scan::{FIRST_FIELD, HEADER, WIDEST, stretch, wide};
@@ -159,57 +158,35 @@ fn tables(sheet: &[u8], letters: u8, fields: u8) -> Progress
     }
 }
 
-// The equations, from an offset on, and then the constraints.
-fn entries_of(
-    sheet: &[u8],
-    letters: u8,
-    fields: u8,
-    equations: u8,
-    constraints: u8,
-    at: usize,
-) -> Progress
-    requires { (9 + letters + fields ≤ length sheet.now) × (at ≤ length sheet.now) }
-    ensures result_value { left sheet.now result ≡ rest (entries_from sheet.now letters fields equations constraints (drop at sheet.now)) }
-    ensures within { within sheet.now result }
-{
-    match entries(
-        sheet,
-        Section::Equations,
-        letters,
-        fields,
-        at,
-        wide(equations),
-    ) {
-        Progress::Stopped(f) => Progress::Stopped(f),
-        Progress::At(e) => entries(
-            sheet,
-            Section::Constraints,
-            letters,
-            fields,
-            e,
-            wide(constraints),
-        ),
-    }
-}
-
-// The whole walk, from the header's end on, of a sheet of this version with these counts.
-pub fn walked(
-    sheet: &[u8],
-    version: u8,
-    letters: u8,
-    fields: u8,
-    equations: u8,
-    constraints: u8,
-) -> Progress
+// The whole walk, from the header's end on, of a sheet with these counts.
+pub fn walked(sheet: &[u8], letters: u8, fields: u8, equations: u8, constraints: u8) -> Progress
     requires { 9 ≤ length sheet.now }
-    ensures result_value { left sheet.now result ≡ rest (model.walk (counts_of version letters fields equations constraints) (drop 9 sheet.now)) }
+    ensures result_value { left sheet.now result ≡ rest (model.walk (counts_of letters fields equations constraints) (drop 9 sheet.now)) }
     ensures within { within sheet.now result }
 {
     match tables(sheet, letters, fields) {
         Progress::Stopped(f) => Progress::Stopped(f),
-        Progress::At(a) => match domain_read::passed(sheet, version, letters, fields, a) {
-            Progress::Stopped(f) => Progress::Stopped(f),
-            Progress::At(d) => entries_of(sheet, letters, fields, equations, constraints, d),
-        },
+        Progress::At(a) => {
+            match entries(
+                sheet,
+                Section::Equations,
+                letters,
+                fields,
+                a,
+                wide(equations),
+            ) {
+                Progress::Stopped(f) => Progress::Stopped(f),
+                Progress::At(e) => {
+                    entries(
+                        sheet,
+                        Section::Constraints,
+                        letters,
+                        fields,
+                        e,
+                        wide(constraints),
+                    )
+                }
+            }
+        }
     }
 }

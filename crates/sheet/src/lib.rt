@@ -1,22 +1,21 @@
-// Reads a sheet: its version and four counts, or the first refusal in the papers' order. It knows nothing of what a sheet means.
+// Reads a sheet: its four counts, or the first refusal in document 01's order. It knows nothing of what a sheet means.
 ghost use Rattle.std.specs.Prelude.{◌≡◌, ◌≤◌, length, drop};
 ghost use Rattle.calls.specs.Calls.{reading_of, reading};
-ghost use Rattle.model.specs.Lists.{between};
-ghost use Rattle.model.specs.Sheet.{ended, opening, sixteen, byte};
+ghost use Rattle.model.specs.Sheet.{ended, opening};
 ghost use Rattle.model.specs.Sheet as model;
 ghost use Rattle.rows.specs.Progress as rows;
-ghost use Rattle.sheet.specs.Answer.{number_of, answer, opening_of, admitted, Headed, given};
+ghost use Rattle.sheet.specs.Answer.{number_of, answer, opening_of, IsAdmitted};
 ghost use Rattle.parts.specs.Counts.{counts_of};
 
 use parts::Counts;
 use rows::{Fault, Progress};
 use scan::{
     CONSTRAINT_COUNT, EQUATION_COUNT, FIELD_COUNT, HEADER, LETTER_COUNT, VERSION_HIGH, VERSION_LOW,
-    in_range, starts_with,
+    in_range, starts_with, wide,
 };
 use sections::walked;
 
-// What reading refuses a sheet for, by document 01's numbers from 1 to 15 and document 02's 46 and 47.
+// What reading refuses a sheet for, by document 01's numbers from 1 to 15.
 #[derive(Drop)]
 pub enum Refusal {
     Short,
@@ -30,8 +29,6 @@ pub enum Refusal {
     LeftOver,
     Letter,
     Limit,
-    LeastLength,
-    LetterSet,
     SymbolCount,
     Symbol,
     Width,
@@ -45,7 +42,7 @@ pub enum Reading {
     Refused(Refusal),
 }
 
-// The number of a refusal.
+// Document 01's number of a refusal.
 pub fn number(refusal: Refusal) -> u8
     ensures { result ≡ number_of refusal }
 {
@@ -61,8 +58,6 @@ pub fn number(refusal: Refusal) -> u8
         Refusal::LeftOver => 9,
         Refusal::Letter => 10,
         Refusal::Limit => 11,
-        Refusal::LeastLength => 46,
-        Refusal::LetterSet => 47,
         Refusal::SymbolCount => 12,
         Refusal::Symbol => 13,
         Refusal::Width => 14,
@@ -70,15 +65,10 @@ pub fn number(refusal: Refusal) -> u8
     }
 }
 
-// No accepted sheet has more than 171 bytes, and the first 172 decide how one is read.
-pub const ENOUGH: usize = 172;
+// No accepted sheet has more than 159 bytes, and the first 160 decide how one is read.
+pub const ENOUGH: usize = 160;
 
-// The versions' high byte, and the versions.
-const NO_HIGH: u8 = 0;
-
-const FIRST_VERSION: u8 = 1;
-
-const LAST_VERSION: u8 = 2;
+const VERSION: usize = 1;
 
 const MOST_LETTERS: u8 = 8;
 
@@ -88,18 +78,7 @@ const MOST_EQUATIONS: u8 = 4;
 
 const MOST_CONSTRAINTS: u8 = 4;
 
-// Whether the version is 1 or 2.
-fn known_version(sheet: &[u8]) -> bool
-    requires { 9 ≤ length sheet.now }
-    ensures { result ≡ between 1 2 (sixteen (byte sheet.now 3) (byte sheet.now 4)) }
-{
-    if sheet[VERSION_HIGH] != NO_HIGH {
-        return false;
-    }
-    in_range(FIRST_VERSION, LAST_VERSION, sheet[VERSION_LOW])
-}
-
-// The header alone: its version and four counts, or the first of the refusals 1 to 7.
+// The header alone: its four counts, or the first of the refusals 1 to 7.
 fn header(sheet: &[u8]) -> Reading
     ensures { opening_of sheet.now result ≡ opening sheet.now }
 {
@@ -109,7 +88,7 @@ fn header(sheet: &[u8]) -> Reading
     if !starts_with(sheet, b"TPL") {
         return Reading::Refused(Refusal::Mark);
     }
-    if !known_version(sheet) {
+    if wide(sheet[VERSION_HIGH]) * 256 + wide(sheet[VERSION_LOW]) != VERSION {
         return Reading::Refused(Refusal::Version);
     }
     if !in_range(1, MOST_LETTERS, sheet[LETTER_COUNT]) {
@@ -125,7 +104,6 @@ fn header(sheet: &[u8]) -> Reading
         return Reading::Refused(Refusal::ConstraintCount);
     }
     Reading::Accepted(Counts {
-        version: sheet[VERSION_LOW],
         letters: sheet[LETTER_COUNT],
         fields: sheet[FIELD_COUNT],
         equations: sheet[EQUATION_COUNT],
@@ -141,8 +119,6 @@ fn refusal_of(fault: Fault) -> Refusal
         Fault::Missing => Refusal::Missing,
         Fault::Letter => Refusal::Letter,
         Fault::Limit => Refusal::Limit,
-        Fault::LeastLength => Refusal::LeastLength,
-        Fault::LetterSet => Refusal::LetterSet,
         Fault::SymbolCount => Refusal::SymbolCount,
         Fault::Symbol => Refusal::Symbol,
         Fault::Width => Refusal::Width,
@@ -153,12 +129,10 @@ fn refusal_of(fault: Fault) -> Refusal
 // What is left to read after a header that passes: the walk, and that it ends where the sheet does.
 fn body(sheet: &[u8], counts: Counts) -> Reading
     requires { 9 ≤ length sheet.now }
-    ensures result_value { answer result ≡ reading_of (ended (model.walk (counts_of counts) (drop 9 sheet.now))) }
-    ensures given { given counts result }
+    ensures { answer result ≡ reading_of (ended (model.walk (counts_of counts) (drop 9 sheet.now))) }
 {
     match walked(
         sheet,
-        counts.version,
         counts.letters,
         counts.fields,
         counts.equations,
@@ -174,12 +148,11 @@ fn body(sheet: &[u8], counts: Counts) -> Reading
     }
 }
 
-// Reads a sheet: the version and the four counts of an accepted one, or the first refusal in the papers' order. Any bytes are allowed.
-// The second clause says nothing more of the answer: it hands callers what acceptance means. The third says that the version too is the sheet's.
+// Reads a sheet: the four counts of an accepted one, or the first refusal in document 01's order. Any bytes are allowed.
+// The second clause says nothing more of the answer: it hands callers what acceptance means.
 pub fn read(sheet: &[u8]) -> Reading
     ensures result_value { answer result ≡ reading sheet.now }
-    ensures admitted { admitted sheet.now result }
-    ensures headed { Headed sheet.now result }
+    ensures admitted { IsAdmitted sheet.now result }
 {
     match header(sheet) {
         Reading::Refused(f) => Reading::Refused(f),

@@ -1,4 +1,4 @@
--- Equations as the walk takes them: from cells one after the other and their widths they are had again; each cell is a letter or a
+-- Equations as the walk takes them: from cells one after the other and their widths they are had again; each cell is a letter below L or a
 -- place. Assumes nothing.
 use mathlib.Core.Path.{◌≡◌, refl, sym, ap, subst, ◌∙◌}
 use mathlib.Core.Bool.{Bool, true, false}
@@ -18,8 +18,10 @@ use Rattle.model.proofs.Seams.{front_is, Written, nothing, more}
 use Rattle.formula.proofs.Small.{letters-few, fields-few, limit-small}
 use Rattle.formula.proofs.Valid.{CellIn, cells_in}
 use Rattle.shape.specs.Bytes.{cell_byte}
+use Rattle.unification.specs.Names.{Below}
 use Rattle.walk.specs.Walk.{Cells}
 use Rattle.trails.specs.Equations.{Equation, equations, cell_total}
+use Rattle.trails.proofs.Attempts.{AllLetters}
 use Rattle.inequalities.specs.Asked.{asked}
 use Rattle.inequalities.proofs.Asked.{asked-none, asked_next}
 use Rattle.trails.specs.Mirror.{template_cells, sides_of}
@@ -61,42 +63,51 @@ unfolding All
 reverse_in P [] h = tt
 reverse_in P (x ∷ xs) h = subst (All P) (sym (reverse-cons x xs)) (append_in P (reverse xs) (x ∷ []) (reverse_in P xs h.1) (h.0, tt))
 
--- a cell's byte is below 56
-abbrev CellBelow : ℕ → Type 0
-CellBelow x = x < 56
+-- A cell's byte is below 56, and below L where it is a letter.
+abbrev CellBelow : ℕ → ℕ → Type 0
+CellBelow l x = (x < 56) × Below l x
 
 module _ (s : Sheet) (ok : InRange s) where
   abbrev l : ℕ
   l = length s.letters
 
-  byte_below : (u : Cell) → CellIn s u → CellBelow (cell_byte u)
-  byte_below (letter a) h = let few = letters-few s ok in omega arith
-  byte_below (place f c) h = let few = fields-few s ok in let n = limit-small s ok f in omega (arith, h)
+  byte_below : (u : Cell) → CellIn s u → CellBelow l (cell_byte u)
+  byte_below (letter a) h = let few = letters-few s ok in (omega arith, λ _. h)
+  byte_below (place f c) h = let few = fields-few s ok in let n = limit-small s ok f in (omega (arith, h), λ k. absurd (omega arith))
 
-  template_below : (t : List Symbol) → All (SymbolIn l (length s.limits)) t → All (CellBelow) (template_cells s t)
-  template_below t h = map_in (CellBelow) cell_byte (cells s t) (weaken _ _ (cells s t) byte_below (cells_in s t h))
+  template_below : (t : List Symbol) → All (SymbolIn l (length s.limits)) t → All (CellBelow l) (template_cells s t)
+  template_below t h = map_in (CellBelow l) cell_byte (cells s t) (weaken _ _ (cells s t) byte_below (cells_in s t h))
 
-  facing_below : (back : Bool) (t : List Symbol) → All (SymbolIn l (length s.limits)) t → All (CellBelow) (template_cells s (facing back t))
+  facing_below : (back : Bool) (t : List Symbol) → All (SymbolIn l (length s.limits)) t → All (CellBelow l) (template_cells s (facing back t))
   facing_below true t h = template_below (reverse t) (reverse_in _ t h)
   facing_below false t h = template_below t h
 
   -- the same at every index: past the end stands 0, which is a letter too
-  at_every : (xs : List ℕ) → All (CellBelow) xs → (i : ℕ) → CellBelow (get_or xs i 0)
+  at_every : (xs : List ℕ) → All (CellBelow l) xs → (i : ℕ) → CellBelow l (get_or xs i 0)
   unfolding All
-  at_every [] h i = omega arith
+  at_every [] h i = let some = ok.counts_in.of_letters.0 in (omega arith, λ _. some)
   at_every (x ∷ xs) h zero = h.0
   at_every (x ∷ xs) h (suc i) = at_every xs h.1 i
 
-  flat_below : (back : Bool) (qs : List sheet.Equation) → All (EquationIn l s.limits) qs → All (CellBelow) (flat_cells (map (sides_facing s back) qs))
+  flat_below : (back : Bool) (qs : List sheet.Equation) → All (EquationIn l s.limits) qs → All (CellBelow l) (flat_cells (map (sides_facing s back) qs))
   unfolding flat_cells each All
   flat_below back [] h = tt
   flat_below back (q ∷ qs) h =
-      append_in (CellBelow) (template_cells s (facing back q.left) ++ template_cells s (facing back q.right)) _
-      (append_in (CellBelow) (template_cells s (facing back q.left)) (template_cells s (facing back q.right)) (facing_below back q.left h.0.left_in.symbols) (facing_below back q.right h.0.right_in.symbols))
+      append_in (CellBelow l) (template_cells s (facing back q.left) ++ template_cells s (facing back q.right)) _
+      (append_in (CellBelow l) (template_cells s (facing back q.left)) (template_cells s (facing back q.right)) (facing_below back q.left h.0.left_in.symbols) (facing_below back q.right h.0.right_in.symbols))
       (flat_below back qs h.1)
 
   pub flat-cells : (back : Bool) (qs : List sheet.Equation) → All (EquationIn l s.limits) qs → Cells (flat_cells (map (sides_facing s back) qs))
-  flat-cells back qs h i = at_every (flat_cells (map (sides_facing s back) qs)) (flat_below back qs h) i
+  flat-cells back qs h i = (at_every (flat_cells (map (sides_facing s back) qs)) (flat_below back qs h) i).0
+
+  pub side-letters : (qs : List sheet.Equation) → All (EquationIn l s.limits) qs → AllLetters l (map (sides_of s) qs)
+  unfolding AllLetters All
+  side-letters [] h = tt
+  side-letters (q ∷ qs) h = (
+    (λ i. (at_every (template_cells s q.left) (template_below q.left h.0.left_in.symbols) i).1),
+    (λ i. (at_every (template_cells s q.right) (template_below q.right h.0.right_in.symbols) i).1),
+    side-letters qs h.1,
+  )
 
 -- Equations at the front of two lent lists, when p of the sheet's have been passed.
 pub record Front (s : Sheet) (back : Bool) (x₀ w₀ : List ℕ) (p : ℕ) (x w : List ℕ) (sizes : Sizes) (qs : List sheet.Equation) : Type 0 where

@@ -1,10 +1,13 @@
 -- How many bytes the lines of a place have, and the file as line 0 and its sections. Assumes nothing.
 use mathlib.Core.Path.{◌≡◌, sym, ap, ◌∙◌}
+use mathlib.Core.Bool.{Bool, true, false}
 use mathlib.Core.List.{List, ◌++◌}
-use Prim.Native.Nat.{ℕ, suc, ◌+◌, ◌*◌, ◌<◌}
+use Prim.Native.Nat.{ℕ, suc, ◌+◌, ◌*◌, ◌<◌, ◌≤◌}
 use native.Mathlib.Omega.{arith}
+use lib.Dec.{ltb}
 use lib.ListN.{length, length-append}
-use Rattle.model.specs.Lists.{each, up_to, total}
+use borrow.Author.Tests.{lt-ltb, le-ltb}
+use Rattle.model.specs.Lists.{each, up_to, when, total}
 use Rattle.model.specs.Sheet.{Sheet, limit}
 use Rattle.model.specs.Range.{InRange}
 use Rattle.formula.specs.Clause.{K, Term, yes, SomeValue, BlankTail, terms, blank, ids}
@@ -19,12 +22,9 @@ use Rattle.dimacs.proofs.Coded.{terms-line}
 use Rattle.dimacs.proofs.Sizes.{line_two, line_codes}
 use Rattle.literals.specs.Name.{line_of}
 use Rattle.locations.proofs.Located.{value-number}
-use Rattle.exclusions.specs.Lines.{excluded_lines}
-use Rattle.values.specs.Lines.{tail_line, place_lines}
-use Rattle.values.specs.Codes.{pair_lines}
-use Rattle.values.proofs.Valued.{place-lines, tail_there}
-use Rattle.rendering.specs.Lines.{section_lines}
-use Rattle.rendering.proofs.Whole.{file-is}
+use Rattle.rendering.specs.Lines.{place_lines, section_lines}
+use Rattle.rendering.specs.Codes.{pair_lines}
+use Rattle.rendering.proofs.Whole.{place-lines, file-is}
 
 module _ (s : Sheet) (f c : ℕ) where
   -- that a place has a value
@@ -38,23 +38,29 @@ module _ (s : Sheet) (f c : ℕ) where
       ∙ line_codes (λ a. first + 2 * a) (suc (blank s))
       ∙ ap (λ k. total k (λ a. code_size (first + 2 * a)) + 2) n
 
-  -- that a blank is followed by a blank, where another place follows
-  pub tail_size : suc c < limit s f → length (tail_line s f c) ≡ code_size (2 * number s (K f c (blank s)) + 1) + code_size (2 * number s (K f (suc c) (blank s))) + 2
+  -- that a blank is followed by a blank
+  tail_size : length (line_of s (BlankTail f c)) ≡ code_size (2 * number s (K f c (blank s)) + 1) + code_size (2 * number s (K f (suc c) (blank s))) + 2
   unfolding terms
-  tail_size h =
-      ap length (tail_there s f c h ∙ sym (terms-line s (BlankTail f c)))
-      ∙ line_two (2 * number s (K f c (blank s)) + 1) (2 * number s (K f (suc c) (blank s)))
+  tail_size =
+      ap length (sym (terms-line s (BlankTail f c))) ∙ line_two (2 * number s (K f c (blank s)) + 1) (2 * number s (K f (suc c) (blank s)))
 
-  -- all of a place
-  pub place-length : (first l : ℕ) → first ≡ 2 * number s (K f c 0) → l ≡ blank s → length (place_lines s f c)
-      ≡ total (l + 1) (λ a. code_size (first + 2 * a)) + 2 + length (each (up_to (suc l)) (pair_lines first l)) + length (tail_line s f c) + length (excluded_lines s f c)
-  place-length first l e el =
-      let pairs : List ℕ = each (up_to (suc l)) (pair_lines first l) in
-      let all = ap length (place-lines s f c first l e el) in
-      let x = length-append (line_of s (SomeValue f c)) (pairs ++ (tail_line s f c ++ excluded_lines s f c)) in
-      let y = length-append pairs (tail_line s f c ++ excluded_lines s f c) in
-      let z = length-append (tail_line s f c) (excluded_lines s f c) in
-      omega (arith, some_size first l e el)
+  module _ (first l : ℕ) (e : first ≡ 2 * number s (K f c 0)) (el : l ≡ blank s) where
+    by_tail : (b : Bool) → ltb (suc c) (limit s f) ≡ b → length (place_lines s f c) ≡ total (l + 1) (λ a. code_size (first + 2 * a)) + 2 + length (each (up_to (suc l)) (pair_lines first l)) + length (when b (line_of s (BlankTail f c)))
+    by_tail b t =
+        let pairs : List ℕ = each (up_to (suc l)) (pair_lines first l) in
+        let tail : List ℕ = when b (line_of s (BlankTail f c)) in
+        let all = ap length (place-lines s f c first l e el ∙ ap (λ z. line_of s (SomeValue f c) ++ (pairs ++ when z (line_of s (BlankTail f c)))) t) in
+        let a = length-append (line_of s (SomeValue f c)) (pairs ++ tail) in
+        let d = length-append pairs tail in
+        omega (arith, some_size first l e el)
+
+    pub not_last_size : suc c < limit s f → length (place_lines s f c)
+        ≡ total (l + 1) (λ a. code_size (first + 2 * a)) + 2 + length (each (up_to (suc l)) (pair_lines first l))
+        + code_size (2 * number s (K f c (blank s)) + 1) + code_size (2 * number s (K f (suc c) (blank s))) + 2
+    not_last_size h = omega (arith, by_tail true (lt-ltb (suc c) (limit s f) h), tail_size)
+
+    pub last_size : limit s f ≤ suc c → length (place_lines s f c) ≡ total (l + 1) (λ a. code_size (first + 2 * a)) + 2 + length (each (up_to (suc l)) (pair_lines first l))
+    last_size h = let all = by_tail false (le-ltb (suc c) (limit s f) h) in omega arith
 
 -- The file.
 pub size_sections : (s : Sheet) → InRange s → (v c : ℕ) → v ≡ variable_count s → c ≡ length (ids s)

@@ -9,13 +9,11 @@ ghost use Rattle.formula.specs.Count.{parts};
 ghost use Rattle.formula.specs.Dimacs.{file_size};
 ghost use Rattle.shape.specs.Name.{section_of};
 ghost use Rattle.dimacs.specs.Codes.{most_code};
-ghost use Rattle.rendering.specs.Lines.{part_lines, section_lines};
-ghost use Rattle.values.specs.Lines.{tail_line, place_lines, field_lines};
-ghost use Rattle.values.specs.Codes.{pair_lines};
+ghost use Rattle.rendering.specs.Lines.{place_lines, field_lines, part_lines, section_lines};
+ghost use Rattle.rendering.specs.Codes.{pair_lines};
 
 use codes::{IS, IS_NOT, place_code};
 use shape::Section;
-use size_exclusion::excluded_size;
 use size_line::{ENDING, literal_size, literals_size, unlike_size};
 use size_location::equation_size;
 use size_sum::constraint_size;
@@ -34,30 +32,20 @@ fn pairs_size(first: usize, letters: usize) -> usize
     sum
 }
 
-// That a blank is followed by a blank, if place c of field f is not the last.
-fn tail_size(sheet: &[u8], f: usize, c: usize) -> usize
-    requires { Admitted sheet.now × PlaceIn (sheet_of sheet.now) f c }
-    ensures { (result ≡ length (tail_line (sheet_of sheet.now) f c)) × (result ≤ 16) }
-{
-    if c + 1 < shape::limit(sheet, f) {
-        let letters = shape::letters(sheet);
-        let here = literal_size(place_code(sheet, f, c, letters, IS_NOT));
-        let next = literal_size(place_code(sheet, f, c + 1, letters, IS));
-        return here + next + ENDING;
-    }
-    0
-}
-
-// Place c of field f: that it has a value, not two, that a blank is followed by a blank, and what its domain excludes.
+// Place c of field f: that it has a value, not two, and, but for the last place, that a blank is followed by a blank.
 fn place_size(sheet: &[u8], f: usize, c: usize) -> usize
     requires { Admitted sheet.now × PlaceIn (sheet_of sheet.now) f c }
-    ensures { (result ≡ length (place_lines (sheet_of sheet.now) f c)) × (result ≤ 1400) }
+    ensures { (result ≡ length (place_lines (sheet_of sheet.now) f c)) × (result ≤ 1300) }
 {
     let letters = shape::letters(sheet);
     let first = 2 * numbering::place_number(sheet, f, c, 0);
     let values = literals_size(first, letters + 1) + ENDING + pairs_size(first, letters);
-    let tail = tail_size(sheet, f, c);
-    values + tail + excluded_size(sheet, f, c)
+    if c + 1 < shape::limit(sheet, f) {
+        let here = literal_size(place_code(sheet, f, c, letters, IS_NOT));
+        let next = literal_size(place_code(sheet, f, c + 1, letters, IS));
+        return values + here + next + ENDING;
+    }
+    values
 }
 
 // Field f.

@@ -1,6 +1,6 @@
 -- What the enums of this crate say in document 01's numbers.
 use Rattle.std.specs.Prelude.{[], ◌∷◌, ℕ}
-use Rattle.model.specs.Mismatch.{solution, differs, breaks, outside}
+use Rattle.model.specs.Mismatch.{solution, differs, breaks}
 use Rattle.calls.specs.Calls.{Answer, refused, finished, judgement_values}
 use Rattle.sheet.specs.Answer as sheet
 use Rattle.fields.specs.Answer as fields
@@ -19,12 +19,11 @@ number_of Equation = 24
 number_of Side = 25
 number_of Room = 26
 
--- "The answer is clash or no clash", and document 02's No. 5: the pair that differs, with what is left over, or the rule broken; No. 7: or the field outside its domain
+-- "The answer is clash or no clash", and document 02's No. 5: the pair that differs, with what is left over, or the rule broken
 abbrev pub checked : Checking → Answer
 checked checking.Solves = finished (judgement_values solution)
 checked (checking.Differs p m) = finished (judgement_values (differs p m.agreeing m.side m.rest))
 checked (checking.Breaks r) = finished (judgement_values (breaks r))
-checked (checking.Outside f) = finished (judgement_values (outside f))
 checked (checking.Refused f) = refused (number_of f)
 
 -- "the answer is its length"

@@ -23,13 +23,12 @@ pub enum Refusal {
 }
 
 // The answer of checking (document 01: clash, or no clash): it solves the sheet; or the first equation whose two words differ, with what is left over; or the
-// first constraint that does not hold; or the first field whose text is outside its domain.
+// first constraint that does not hold.
 #[derive(Drop)]
 pub enum Checking {
     Solves,
     Differs(usize, Mismatch),
     Breaks(usize),
-    Outside(usize),
     Refused(Refusal),
 }
 
@@ -61,7 +60,6 @@ fn told(judgement: Judgement) -> Checking
         Judgement::Solution => Checking::Solves,
         Judgement::Differs(equation, mismatch) => Checking::Differs(equation, mismatch),
         Judgement::Breaks(constraint) => Checking::Breaks(constraint),
-        Judgement::Outside(field) => Checking::Outside(field),
     }
 }
 

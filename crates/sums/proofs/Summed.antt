@@ -18,7 +18,7 @@ use Rattle.formula.specs.Clause.{K, T, Term, yes, no, only, Add, Bound, terms, l
 use Rattle.formula.specs.Count.{within}
 use Rattle.formula.specs.Numbering.{number, SumIn, VariableIn}
 use Rattle.model.proofs.Keeping.{loop_same}
-use Rattle.formula.proofs.Integers.{from_least, above-least, sum_in, sum_next}
+use Rattle.formula.proofs.Integers.{from-least, above-least, sum_in, sum_next}
 use Rattle.formula.proofs.Numbering.{number_small}
 use Rattle.formula.proofs.Small.{variables-small, fields-few, limit-small, coefficient_few, least-small, spread-small}
 use Rattle.dimacs.specs.Codes.{codes_line, term_code, most_code}
@@ -106,7 +106,7 @@ module _ (s : Sheet) (r k m : ℕ) where
             coefficient_few = coefficient_few s ok r hr k;
             low_few = omega (arith, least-small s ok r hr (suc k), fields-few s ok);
             sum_few = sum_fits s ok r k hr (omega arith) sum (sum_in s c k m hm);
-            above = ap (λ z. z -ℤ low_sum) inside.0 ∙ from_least low_sum (nat_abs (sum +ℤ coefficient c k *ℤ pos d -ℤ low_sum));
+            above = ap (λ z. z -ℤ low_sum) inside.0 ∙ from-least low_sum (nat_abs (sum +ℤ coefficient c k *ℤ pos d -ℤ low_sum));
             offset_few = omega (arith, inside.1, spread-small s ok r hr (suc k), fields-few s ok);
           })
 

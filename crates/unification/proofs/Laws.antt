@@ -12,7 +12,7 @@ use Rattle.model.specs.Lists.{pick}
 use Rattle.model.proofs.Lists.{never, by_test}
 use Rattle.fields.specs.declared.Field.{Field}
 use Rattle.unification.specs.declared.Found.{Found}
-use Rattle.unification.specs.Names.{repl, map_field, app, place_of, value_of, unify_of, found, failed, Refining}
+use Rattle.unification.specs.Names.{repl, settle, map_field, app, place_of, value_of, unify_of, found, failed, Below, Inside, Refining}
 
 -- what holds of both arms holds of the one that is picked
 pub pick_ind : {A : Type 0} (P : A → Type 0) (b : Bool) {x y : A} → (b ≡ true → P x) → (b ≡ false → P y) → P (pick b x y)
@@ -46,6 +46,14 @@ repl_refines u v h n m = record {
   solid = λ x. pick_ind (λ z. z ≡ 255 → x ≡ 255) (eqb x u) (λ t e. absurd (m e)) (λ t e. e);
 }
 
+pub settle_refines : Refining settle
+settle_refines = record {
+  letter = λ x h. simp (lt-ltb x 8 h);
+  blank = refl;
+  solid = λ x. pick_ind (λ z. z ≡ 255 → x ≡ 255) (ltb x 8) (λ t e. e)
+      (λ t. pick_ind (λ z. z ≡ 255 → x ≡ 255) (eqb x 255) (λ q e. eqb-true x 255 q) (λ q e. absurd (omega arith)));
+}
+
 -- two renamings one after the other are one, and the renaming that keeps every place changes nothing
 pub app-app : (s r : ℕ → ℕ) (g : List Field) → app r (app s g) ≡ app (λ x. r (s x)) g
 unfolding app
@@ -73,6 +81,10 @@ further {g} p q = record {
   is = q.is ∙ ap (app q.by) p.is ∙ app-app p.by q.by g;
 }
 
+-- g with every name settled
+abbrev pub settled : (g : List Field) → Renamed g (app settle g)
+settled g = record { by = settle; refines = settle_refines; is = refl }
+
 get_d_map : (s : ℕ → ℕ) (l : List ℕ) (c : ℕ) → s 0 ≡ 0 → get_or (map s l) c 0 ≡ s (get_or l c 0)
 get_d_map s [] c e = sym e
 get_d_map s (x ∷ l) zero e = refl
@@ -92,6 +104,9 @@ value-place g u h = simp (le-ltb u 8 h)
 pub value-letter : (g : List Field) (u : ℕ) → u < 8 → value_of g u ≡ u
 unfolding value_of
 value-letter g u h = simp (lt-ltb u 8 h)
+
+pub value_below : (l : ℕ) (g : List Field) (u : ℕ) → Inside l g → Below l u → Below l (value_of g u)
+value_below l g u ins b = by_lt u 8 (λ h. rw (value-letter g u h) b) (λ h. ins u h)
 
 -- the value of a cell after a renaming is its value, renamed
 value-app : (s : ℕ → ℕ) → Refining s → (g : List Field) (u : ℕ) → value_of (app s g) u ≡ s (value_of g u)
@@ -148,3 +163,15 @@ unify_complete g u v s p e =
     (λ d a b. absurd (d (sym (p.letter u a) ∙ e ∙ p.letter v b)))
     (λ d h. (refl, repl_absorbed s u v e g))
     (λ d h. (refl, repl_absorbed s v u (sym e) g))
+
+-- letters come from nowhere else: where u and v are below l, so is what unification answers
+inside-repl : (l : ℕ) (g : List Field) (u v : ℕ) → Inside l g → (u ≡ 255 → ⊥) → (v ≡ 255 → ⊥) → Below l v → 8 ≤ u → Inside l (app (repl u v) g)
+inside-repl l g u v ins n m b h w k = rw (value-app (repl u v) (repl_refines u v h n m) g w) (pick_ind (Below l) (eqb (value_of g w) u) (λ t. b) (λ t. ins w k))
+
+pub unify_inside : (l : ℕ) (g : List Field) (u v : ℕ) → Inside l g → (u ≡ 255 → ⊥) → (v ≡ 255 → ⊥) → Below l u → Below l v → Inside l (unify_of g u v).substitution
+unify_inside l g u v ins n m p q =
+    unify_cases (λ r. Inside l r.substitution) g u v
+    (λ _. ins)
+    (λ d a b. ins)
+    (λ d h. inside-repl l g u v ins n m q h)
+    (λ d h. inside-repl l g v u ins m n p h)

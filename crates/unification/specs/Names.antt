@@ -1,13 +1,23 @@
 -- Substitutions with names, what cells hold under them, and unification of two values.
-use Rattle.std.specs.Prelude.{◌≡◌, ℕ, ◌-◌, ◌/◌, ◌%◌, ◌<◌, true, false, List, [], map, get_or, ltb, eqb}
+use Rattle.std.specs.Prelude.{◌≡◌, ℕ, ◌-◌, ◌/◌, ◌%◌, ◌<◌, ◌≤◌, true, false, List, [], map, get_or, ltb, eqb}
 use Rattle.model.specs.Lists.{pick}
 use Rattle.fields.specs.declared.Field.{Field}
 use Rattle.fields.specs.Memory.{field}
 use Rattle.unification.specs.declared.Found.{Found}
+use Rattle.unification.specs.declared.Renaming.{Renaming}
+use Rattle.unification.specs.declared.Renaming.TheVariants.{Replace, Settle}
 
 -- x, or v where x is u
 abbrev pub repl : ℕ → ℕ → ℕ → ℕ
 repl u v x = pick (eqb x u) v x
+
+-- a name that is left takes letter 0
+abbrev pub settle : ℕ → ℕ
+settle x = pick (ltb x 8) x (pick (eqb x 255) 255 0)
+
+abbrev pub renames : Renaming → ℕ → ℕ
+renames (Replace u v) x = repl u v x
+renames Settle x = settle x
 
 -- s applied to every place
 abbrev pub map_field : (ℕ → ℕ) → Field → Field
@@ -39,6 +49,14 @@ unify_of g u v =
     pick (eqb u v) (found g)
     (pick (ltb u 8) (pick (ltb v 8) (failed g) (found (app (repl v u) g)))
     (found (app (repl u v) g)))
+
+-- x is a letter below l, or no letter
+abbrev pub Below : ℕ → ℕ → Type 0
+Below l x = x < 8 → x < l
+
+-- all letters of a substitution are below l
+abbrev pub Inside : ℕ → List Field → Type 0
+Inside l g = (u : ℕ) → 8 ≤ u → Below l (value_of g u)
 
 -- what may be applied to every place: letters and blanks stay, and nothing else becomes blank (names become other names, or letters)
 pub record Refining (s : ℕ → ℕ) : Type 0 where

@@ -4,9 +4,9 @@
 // not known; 254, where it is open whether there is such a place (see `walk`); or 255, past its field's length. A cell is a letter, or the name of
 // a place, as in `shape`.
 ghost use Rattle.std.specs.Prelude.{◌≡◌, ◌<◌, length};
-ghost use Rattle.unification.specs.Names.{repl, map_field, app, value_of, unify_of};
+ghost use Rattle.unification.specs.Names.{settle, renames, map_field, app, value_of, unify_of};
 
-use fields::{FIELDS, Field, PLACES, Substitution};
+use fields::{FIELDS, Field, PAST, PLACES, Substitution};
 use shape::FIRST_PLACE;
 
 // An answer of the search: a substitution, where ok.
@@ -14,6 +14,13 @@ use shape::FIRST_PLACE;
 pub struct Found {
     pub ok: bool,
     pub substitution: Substitution,
+}
+
+// What is done to every place: one name becomes another name or a letter, or every name that is left becomes the lowest letter.
+#[derive(Drop)]
+pub enum Renaming {
+    Replace(u8, u8),
+    Settle,
 }
 
 // What the types say of a field and of a substitution, for the proofs of functions that call these: they are handed back unchanged.
@@ -29,23 +36,36 @@ fn six(g: Substitution) -> Substitution
     g
 }
 
-// What a place holds once u has become v.
-fn renamed(x: u8, u: u8, v: u8) -> u8
-    ensures { result ≡ repl u v x }
+// A name that is left takes letter 0.
+fn settled(x: u8) -> u8
+    ensures { result ≡ settle x }
 {
-    if x == u { v } else { x }
+    if x < FIRST_PLACE {
+        return x;
+    }
+    if x == PAST { PAST } else { 0 }
 }
 
-// The name u made v at the places of one field.
-fn rename_field(t: Field, u: u8, v: u8) -> Field
-    ensures { result ≡ map_field (repl u v) t }
+// What a place holds after a renaming.
+fn renamed(x: u8, by: Renaming) -> u8
+    ensures { result ≡ renames by x }
+{
+    match by {
+        Renaming::Replace(u, v) => if x == u { v } else { x },
+        Renaming::Settle => settled(x),
+    }
+}
+
+// A renaming of the places of one field.
+fn rename_field(t: Field, by: Renaming) -> Field
+    ensures { result ≡ map_field (renames by) t }
 {
     let known = eight(t);
     let from = t.letters;
     let mut letters = t.letters;
     let mut c: usize = 0;
     while c < PLACES {
-        letters[c] = renamed(from[c], u, v);
+        letters[c] = renamed(from[c], by);
         c += 1;
     }
     Field {
@@ -54,16 +74,16 @@ fn rename_field(t: Field, u: u8, v: u8) -> Field
     }
 }
 
-// The name u made v at all places.
-fn rename(g: Substitution, u: u8, v: u8) -> Substitution
-    ensures { result ≡ app (repl u v) g }
+// A renaming of all places.
+pub fn rename(g: Substitution, by: Renaming) -> Substitution
+    ensures { result ≡ app (renames by) g }
 {
     let known = six(g);
     let mut h = g;
     let mut f: usize = 0;
     while f < FIELDS {
         let t = g[f];
-        h[f] = rename_field(t, u, v);
+        h[f] = rename_field(t, by);
         f += 1;
     }
     h
@@ -94,13 +114,13 @@ pub fn unify(g: Substitution, u: u8, v: u8) -> Found
     if u >= FIRST_PLACE {
         return Found {
             ok: true,
-            substitution: rename(g, u, v),
+            substitution: rename(g, Renaming::Replace(u, v)),
         };
     }
     if v >= FIRST_PLACE {
         return Found {
             ok: true,
-            substitution: rename(g, v, u),
+            substitution: rename(g, Renaming::Replace(v, u)),
         };
     }
     Found {

@@ -18,7 +18,7 @@ use scan::wide;
 use substitution::{Checking, Spelling};
 use vectors::{next, show_refused};
 
-// Room for a sheet's or a filling's bytes. No accepted sheet has more than 171; some vectors
+// Room for a sheet's or a filling's bytes. Document 01 accepts none of more than 159; some vectors
 // have just over 256, so that a length that is kept in one byte would show.
 const ROOM: usize = 512;
 
@@ -88,10 +88,6 @@ fn show_check(sheet: &[u8], filling: &[u8]) {
         }
         Checking::Breaks(constraint) => {
             show_number(b": no clash, rule ", constraint);
-            io::write_all(STDOUT_FILENO, b"\n");
-        }
-        Checking::Outside(field) => {
-            show_number(b": no clash, field ", field);
             io::write_all(STDOUT_FILENO, b"\n");
         }
         Checking::Refused(refusal) => {

@@ -6,7 +6,7 @@ use hex::{decode, find};
 use libc::{STDIN_FILENO, STDOUT_FILENO};
 use vectors::{next, show_refused};
 
-// Room for a sheet's bytes. No accepted sheet has more than 171.
+// Room for a sheet's bytes. Document 01 accepts none of more than 159.
 const ROOM: usize = 256;
 
 // Shows each vector of standard input, of which the first 65,536 bytes are read.

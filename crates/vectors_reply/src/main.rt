@@ -11,7 +11,7 @@ use hex::{after, decode, find, signed};
 use libc::{STDIN_FILENO, STDOUT_FILENO};
 use vectors::{next, show_bytes, show_refused};
 
-// Room for a sheet's bytes. No accepted sheet has more than 171.
+// Room for a sheet's bytes. Document 01 accepts none of more than 159.
 const SHEET: usize = 256;
 
 // Room for a text's bytes. Document 01 accepts none of more than 65,536.

@@ -12,7 +12,8 @@ use Rattle.model.specs.Lists.{pick, from}
 use Rattle.model.proofs.Keeping.{map-from-at}
 use Rattle.fields.specs.declared.Field.{Field}
 use Rattle.fields.specs.Memory.{field}
-use Rattle.unification.specs.Names.{no_field, place_of, value_of, Refining}
+use Rattle.unification.specs.Names.{no_field, place_of, value_of, Below, Refining}
+use Rattle.unification.specs.Names as names
 use Rattle.unification.proofs.Laws.{pick_ind, by_lt, Renamed, value-place, value-letter, value_renamed}
 use Rattle.walk.specs.Renew.{renewed_of, renew_place, renew_field, renew_at, renew_of}
 use Rattle.walk.specs.Reading.{name_of, fresh_of, start_of, Reads, texts, Covers, Inside, open_field, all_open}
@@ -121,6 +122,9 @@ start-closed n u =
     by_lt u 8
     (λ h. rw (value-letter (start_of n) u h) (λ e. omega arith))
     (λ h. start-values (λ x. x ≡ 254 → ⊥) n (λ e. omega arith) (λ e. omega arith) (λ x p q e. omega arith) u h)
+
+pub start-letters : (l : ℕ) → 0 < l → (n : List ℕ) → names.Inside l (start_of n)
+start-letters l z n u h = start-values (Below l) n (λ _. z) (λ b. absurd (omega arith)) (λ x p q b. absurd (omega arith)) u h
 
 -- a name of the start holds itself
 pub start-value : (n : List ℕ) (f c : ℕ) → f < 6 → c < 8 → c < get_or n f 0 → value_of (start_of n) (8 + 8 * f + c) ≡ 8 + 8 * f + c

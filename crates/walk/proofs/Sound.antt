@@ -1,4 +1,5 @@
--- In a box of one vector nothing is open, and there the walk is sound: where it does not fail, its answer makes the two words equal. Assumes nothing.
+-- In a box of one vector nothing is open, and there the walk is sound: where it does not fail, its answer makes the two words equal. And in every box it
+-- brings in no letter that the cells and the substitution do not have. Assumes nothing.
 use mathlib.Core.Path.{◌≡◌, refl, sym, ap, ap₂, ◌∙◌}
 use mathlib.Core.Bool.{true}
 use mathlib.Core.List.{List, [], ◌∷◌, ◌++◌, map}
@@ -8,9 +9,9 @@ use lib.Dec.{eqb}
 use borrow.Author.Tests.{eqb-true, eqb-false}
 use Rattle.model.proofs.Lists.{never}
 use Rattle.fields.specs.declared.Field.{Field}
-use Rattle.unification.specs.Names.{value_of, unify_of}
-use Rattle.unification.proofs.Laws.{pick_ind, Renamed, unchanged, further, value_renamed, Unified, unify_sound}
-use Rattle.walk.specs.Walk.{word, Reached, walk_in}
+use Rattle.unification.specs.Names.{value_of, unify_of, Inside}
+use Rattle.unification.proofs.Laws.{pick_ind, Renamed, unchanged, further, value_renamed, value_below, Unified, unify_sound, unify_inside}
+use Rattle.walk.specs.Walk.{Letters, word, Reached, walk_in}
 use Rattle.walk.proofs.Right.{Solid, along, word_blank, word-solid, word-append, SameOpen, unify_open}
 
 abbrev pub Closed : List Field → Type 0
@@ -84,3 +85,20 @@ walk_sound = along (λ a b g r. Closed g → r.ok ≡ true → Solved a b g r.su
     stuck : {P : Type 0} (g : List Field) (u v : ℕ) → Closed g → (value_of g u ≡ 254) ⊎ (value_of g v ≡ 254) → P
     stuck g u v c (inl e) = absurd (c u e)
     stuck g u v c (inr e) = absurd (c v e)
+
+-- letters come from nowhere else
+pub walk_inside : (l : ℕ) (a b : List ℕ) (g : List Field) → Letters l a → Letters l b → Inside l g → Inside l (walk_in a b g).substitution
+walk_inside l = along (λ a b g r. Letters l a → Letters l b → Inside l g → Inside l r.substitution) record {
+  ends = λ g p q ins. ins;
+  left_blank = λ u a b g r e so p q. so (λ i. p (suc i)) q;
+  right_blank = λ v a b g r e so p q. so p (λ i. q (suc i));
+  left_over = λ u a g n p q ins. ins;
+  right_over = λ v b g n p q ins. ins;
+  same_cell = λ u v a b g r d so p q. so (λ i. p (suc i)) (λ i. q (suc i));
+  waits = λ u v a b g o p q ins. ins;
+  letters = λ u v a b g m n so p q ins.
+      let k : Inside l (unify_of g (value_of g u) (value_of g v)).substitution = unify_inside l g (value_of g u) (value_of g v) ins m.present n.present (value_below l g u ins (p 0)) (value_below l g v ins (q 0)) in
+      pick_ind (λ (r : Reached). Inside l r.substitution) (unify_of g (value_of g u) (value_of g v)).ok
+      (λ t. so (unify_of g (value_of g u) (value_of g v)).substitution (λ i. p (suc i)) (λ i. q (suc i)) k)
+      (λ t. ins);
+}

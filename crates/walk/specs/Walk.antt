@@ -3,12 +3,16 @@ use Rattle.std.specs.Prelude.{◌≡◌, Bool, true, false, List, [], ◌∷◌,
 use Rattle.model.specs.Lists.{pick}
 use Rattle.fields.specs.declared.Field.{Field}
 use Rattle.unification.specs.declared.Found.{Found}
-use Rattle.unification.specs.Names.{value_of, unify_of}
+use Rattle.unification.specs.Names.{value_of, unify_of, Below}
 use Rattle.walk.specs.declared.Walked.{Walked}
 
 -- a letter, or the name of a place
 abbrev pub Cells : List ℕ → Type 0
 Cells a = (i : ℕ) → get_or a i 0 < 56
+
+-- its letters are below l
+abbrev pub Letters : ℕ → List ℕ → Type 0
+Letters l a = (i : ℕ) → Below l (get_or a i 0)
 
 -- the word that the cells spell: blanks are passed over
 unfoldable pub word : List Field → List ℕ → List ℕ

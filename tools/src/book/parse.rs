@@ -14,9 +14,9 @@ use super::form::{Form, Template};
 use super::places::{Places, TemplatePlaces};
 use crate::form::{Field, Symbol};
 use crate::hours::parse as hours;
+use crate::letters;
 use crate::line::{fault_at, Line};
 use crate::source::{Fault, Place};
-use crate::{kind, letters};
 
 /// The word before fields that stand nowhere in their template.
 pub const UNUSED: &str = "unused";
@@ -201,9 +201,6 @@ impl Reading {
         line.peek();
         let at = line.place();
         let limit = line.limit(&name)?;
-        if line.comes(&kind::WORDS) {
-            return line.fault("a book has no kinds of field; a sheet has: `lunthegyr book --sheet` writes two templates as one, and there a field's line may have a kind");
-        }
         self.template.fields.push(Field { name, limit });
         self.places.fields.push(place);
         self.places.limits.push(at);

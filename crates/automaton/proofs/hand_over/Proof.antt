@@ -6,7 +6,7 @@ use Prim.Native.Nat.{◌*◌}
 use native.Mathlib.Omega.{arith}
 use lib.ListN.{take, drop}
 use borrow.Author.Rules.{rules}
-use borrow.Author.Tests.{not_true, not-false}
+use borrow.Author.Tests.{not-true, not-false}
 use Rattle.model.specs.Sheet.{sheet_of}
 use Rattle.model.specs.Order.{IsFirst}
 use Rattle.model.specs.Filling.{encode_filling}
@@ -26,7 +26,7 @@ returns : tie.Need-returns
 returns c =
     let at-solve = c.before.before in
     let start = at-solve.before.before.before in
-    search_apart start.args.sheet.now start.args.buf.now start.requires.0.0 start.requires.1 (at-solve.solve.ensures.none (not_true _ c.if1.true))
+    search_apart start.args.sheet.now start.args.buf.now start.requires.0.0 start.requires.1 (at-solve.solve.ensures.none (not-true _ c.if1.true))
 
 -- what is found holds the first solution
 abbrev start : tie.Else1 → tie.Start
@@ -44,7 +44,7 @@ solves-requires c κs = found-held c.before
 returns-2 : tie.Need-returns-2
 returns-2 c =
     let found = c.before.before.before in
-    let fails = sym c.before.solves.ensures ∙ not_true _ c.if2.true in
+    let fails = sym c.before.solves.ensures ∙ not-true _ c.if2.true in
     never (sym fails ∙ solves_in _ _ (found_first found).is_solution)
 
 fields-requires : tie.Need-fields-requires

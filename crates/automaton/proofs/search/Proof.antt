@@ -6,7 +6,7 @@ use lib.ListN.{length}
 use borrow.Author.Rules.{rules}
 use Rattle.model.specs.Range.{Admitted}
 use Rattle.calls.proofs.Searching.{searching_sheet, searching-room, search_refused}
-use Rattle.sheet.specs.Answer.{number_of, answer, admitted}
+use Rattle.sheet.specs.Answer.{number_of, answer, IsAdmitted}
 use Rattle.automaton.proofs.search.Statement.{statement}
 use Rattle.automaton.proofs.search.Tie as tie
 
@@ -24,7 +24,7 @@ abbrev start : tie.After-enum-told → tie.Start
 start c = c.before.before.before.before.before
 
 ready : (c : tie.After-enum-told) → Admitted (start c).args.sheet.now
-ready c = subst (admitted (start c).args.sheet.now) c.enum_told.given.1 c.before.before.read.ensures.1.0
+ready c = subst (IsAdmitted (start c).args.sheet.now) c.enum_told.given.1 c.before.before.read.ensures.1
 
 fields-requires : tie.Need-fields-requires
 fields-requires c κs = ready c

@@ -6,7 +6,7 @@ use Prim.Native.Nat.{◌+◌, ◌<◌, ◌≤◌}
 use native.Mathlib.Omega.{arith}
 use lib.ListN.{length}
 use borrow.Author.Rules.{rules}
-use borrow.Author.Tests.{not_true, not-false}
+use borrow.Author.Tests.{not-true, not-false}
 use Rattle.model.specs.Lists.{when, Puts}
 use Rattle.book.specs.Book.{book_of}
 use Rattle.book_list.specs.Wanted.{listed}
@@ -55,7 +55,7 @@ returns-2 : tie.Need-returns-2
 returns-2 c =
     let at-settled = c.before.before.before in
     let a = (start at-settled.before.before).args in
-    (pair_none a.list.now a.at a.i a.j _ (asked at-settled ∙ not_true _ c.if2.true), at-settled.settled.ensures.1)
+    (pair_none a.list.now a.at a.i a.j _ (asked at-settled ∙ not-true _ c.if2.true), at-settled.settled.ensures.1)
 
 -- they do
 abbrev at-settled : tie.Else2 → tie.After-settled

@@ -82,8 +82,8 @@ abbrev limited : tie.After-put-head → tie.After-limits2
 limited c = c.before.before.before
 
 -- the head is written
-Headed : (c : tie.After-put-head) → let s = start (limited c) in Still s (tail s) [] c.put-head.new.0 c.put-head.result
-Headed c =
+headed : (c : tie.After-put-head) → let s = start (limited c) in Still s (tail s) [] c.put-head.new.0 c.put-head.result
+headed c =
     let s = start (limited c) in
     let e = swap (λ l m n. head_bytes l m n ≡ head s) c.before.letters.ensures (left_is (limited c)) (right_is (limited c)) refl in
     next (both s) (subst (λ p. Puts s.args.buf.now 0 p c.put-head.new.0 c.put-head.result) e c.put-head.ensures) c.put-head.auto.0
@@ -120,7 +120,7 @@ put-sides-requires c κs =
     let at-limits = limited at_head in
     let s = start at-limits in
     swap (SidesAsk s at_head.put-head.result at_head.put-head.new.0) (left_is at-limits) c.before.symbols.ensures c.symbols2.ensures
-    (sides-ask s at_head.put-head.result at_head.put-head.new.0 (fits (Headed at_head)))
+    (sides-ask s at_head.put-head.result at_head.put-head.new.0 (fits (headed at_head)))
 
 same_length : tie.Need-same-length
 same_length c = search rules
@@ -133,7 +133,7 @@ returns c =
     let at-limits = limited at_head in
     let s = start at-limits in
     let e = swap (λ l m n. sides_bytes (length l) m n ≡ tail s) (left_is at-limits) at-symbols2.before.symbols.ensures at-symbols2.symbols2.ensures refl in
-    ends _ _ (Headed at_head) (subst (λ p. Puts at_head.put-head.new.0 at_head.put-head.result p after.put_sides.new.0 after.put_sides.result) e after.put_sides.ensures) after.put_sides.auto.0
+    ends _ _ (headed at_head) (subst (λ p. Puts at_head.put-head.new.0 at_head.put-head.result p after.put_sides.new.0 after.put_sides.result) e after.put_sides.ensures) after.put_sides.auto.0
 
 pub put-question-spec : {M : Type 1} → statement M
 put-question-spec =

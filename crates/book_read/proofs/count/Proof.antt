@@ -6,7 +6,7 @@ use native.Mathlib.Omega.{arith}
 use lib.ListN.{drop, get_or, drop_of_length-le}
 use lib.Seq.{drop-cons}
 use borrow.Author.Rules.{rules}
-use borrow.Author.Tests.{not_true, not-false}
+use borrow.Author.Tests.{not-true, not-false}
 use Rattle.book.proofs.Rests.{count-lacks, count_stops, count_goes}
 use Rattle.book_read.proofs.count.Statement.{statement}
 use Rattle.book_read.proofs.count.Tie as tie
@@ -27,7 +27,7 @@ returns-2 c =
     let at-if = c.before.before.before in
     let a = at-if.before.before.args in
     let b = a.book.now in
-    ((41, count_stops a.low a.high (drop a.at b) (get_or b a.at 0) (drop (suc a.at) b) (drop-cons b a.at 0 (omega (arith, at-if.if1.false))) (sym c.before.in_range.ensures ∙ not_true _ c.if2.true)), tt)
+    ((41, count_stops a.low a.high (drop a.at b) (get_or b a.at 0) (drop (suc a.at) b) (drop-cons b a.at 0 (omega (arith, at-if.if1.false))) (sym c.before.in_range.ensures ∙ not-true _ c.if2.true)), tt)
 
 add-t5 : tie.Need-overflow-add-t5
 add-t5 c = search rules

@@ -2,8 +2,8 @@
 use mathlib.Core.Path.{sym, ◌∙◌}
 use lib.ListN.{length}
 use borrow.Author.Rules.{rules}
-use borrow.Author.Tests.{le-leb, lt-leb, not_true, not-false}
-use Rattle.book.proofs.Opening.{opens-short, opens_unmarked, opens-version}
+use borrow.Author.Tests.{le-leb, lt-leb, not-true, not-false}
+use Rattle.book.proofs.Opening.{opens-short, opens_unmarked, opens_version}
 use Rattle.book_read.proofs.opens.Statement.{statement}
 use Rattle.book_read.proofs.opens.Tie as tie
 
@@ -17,7 +17,7 @@ returns-2 : tie.Need-returns-2
 returns-2 c =
     let at-if = c.before.before in
     let a = at-if.before.before.before.args in
-    sym (opens_unmarked a.mark.now a.file.now (le-leb 5 (length a.file.now) at-if.if1.false) (sym c.before.starts_with.ensures ∙ not_true _ c.if2.true))
+    sym (opens_unmarked a.mark.now a.file.now (le-leb 5 (length a.file.now) at-if.if1.false) (sym c.before.starts_with.ensures ∙ not-true _ c.if2.true))
 
 shared-slice-read-wide : tie.Need-shared-slice-read-wide
 shared-slice-read-wide c = search rules
@@ -44,7 +44,7 @@ returns-3 c =
     let at-if = at_mark.before.before in
     let a = at-if.before.before.before.args in
     rw (at_wide.wide.ensures.0, c.wide2.ensures.0)
-    (sym (opens-version a.mark.now a.file.now (le-leb 5 (length a.file.now) at-if.if1.false) (sym at_mark.before.starts_with.ensures ∙ not-false _ at_mark.if2.false)))
+    (sym (opens_version a.mark.now a.file.now (le-leb 5 (length a.file.now) at-if.if1.false) (sym at_mark.before.starts_with.ensures ∙ not-false _ at_mark.if2.false)))
 
 pub opens-spec : {M : Type 1} → statement M
 opens-spec =

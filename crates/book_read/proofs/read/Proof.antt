@@ -3,7 +3,7 @@ use mathlib.Core.Path.{◌≡◌, sym, ◌∙◌}
 use mathlib.Core.Bool.{true}
 use lib.ListN.{drop}
 use borrow.Author.Rules.{rules}
-use borrow.Author.Tests.{not_true, not-false}
+use borrow.Author.Tests.{not-true, not-false}
 use Rattle.parts.proofs.Known.{lent_bytes}
 use Rattle.book.specs.Book.{body, mark, opens}
 use Rattle.book.proofs.Opening.{opens-long}
@@ -20,7 +20,7 @@ opens-requires : tie.Need-opens-requires
 opens-requires c κs = search rules
 
 returns : tie.Need-returns
-returns c = read_shut c.before.before.before.before.args.book.now (sym c.before.opens.ensures ∙ not_true _ c.if1.true)
+returns c = read_shut c.before.before.before.before.args.book.now (sym c.before.opens.ensures ∙ not-true _ c.if1.true)
 
 -- the book has its mark and version
 abbrev start : tie.Else1 → tie.Start

@@ -11,7 +11,7 @@ use borrow.Author.Tests.{le-leb, lt-leb}
 use Rattle.model.specs.Sheet.{got, rest, template_byte, row, symbol_of, width}
 use Rattle.book.specs.Book.{count}
 use Rattle.book.proofs.Rests.{symbols-none, symbols_stop, symbols-wide, symbols-left}
-use Rattle.rows.proofs.Told.{at_told, fault-told, landed-told}
+use Rattle.sections.proofs.Walks.{at_told, fault-told, landed-told}
 use Rattle.rows.specs.Progress.{number_of}
 use Rattle.book_read.proofs.Walks.{came_at, came_stopped, landed_at, first-left}
 use Rattle.book_read.proofs.symbols.Statement.{statement}

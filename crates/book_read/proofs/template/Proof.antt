@@ -7,7 +7,7 @@ use borrow.Author.Rules.{rules}
 use Rattle.model.specs.Sheet.{got, rest, limit_byte, row}
 use Rattle.book.specs.Book.{count, a_template, some_symbols}
 use Rattle.book.proofs.Rests.{template-none, template_stops, template-left}
-use Rattle.rows.proofs.Told.{at_told, fault-told, landed-told}
+use Rattle.sections.proofs.Walks.{at_told, fault-told, landed-told}
 use Rattle.rows.specs.Progress.{number_of}
 use Rattle.book_read.proofs.Walks.{came_at, came_stopped, landed_at, came_same, first-left}
 use Rattle.book_read.proofs.template.Statement.{statement}

@@ -1,7 +1,7 @@
 -- `book_repeats::alike` meets its contract: the limits, then the symbols. Assumes nothing.
 use mathlib.Core.Path.{◌≡◌, sym, ap₂, ◌∙◌}
 use borrow.Author.Rules.{rules}
-use borrow.Author.Tests.{not_true, not-false}
+use borrow.Author.Tests.{not-true, not-false}
 use Rattle.model.specs.Lists as lists
 use Rattle.book.specs.Book.{template, book_of}
 use Rattle.book_repeats.specs.Repeats.{same_template}
@@ -26,7 +26,7 @@ of_limits c = c.same.ensures ∙ ap₂ lists.same c.before.before.limits.ensures
 
 returns : tie.Need-returns
 unfolding same_template
-returns c = sym (rw (sym (of_limits c.before) ∙ not_true _ c.if1.true))
+returns c = sym (rw (sym (of_limits c.before) ∙ not-true _ c.if1.true))
 
 symbols-requires : tie.Need-symbols-requires
 symbols-requires c κs = search rules

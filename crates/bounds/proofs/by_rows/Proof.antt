@@ -4,7 +4,7 @@ use mathlib.Core.Bool.{true}
 use Prim.Native.Nat.{◌-◌, ◌≤◌}
 use native.Mathlib.Omega.{arith}
 use borrow.Author.Rules.{rules}
-use borrow.Author.Tests.{not_true, not-false}
+use borrow.Author.Tests.{not-true, not-false}
 use Rattle.model.proofs.Lists.{never}
 use Rattle.bounds.specs.Bounds.{RowsPassed}
 use Rattle.bounds.proofs.Narrowing.{passed_none, passed_next, hopeless_nowhere}
@@ -31,7 +31,7 @@ returns c =
     let row = c.before.before in
     let at-loop = row.before.before.before.before in
     let a = at-loop.before.before.args in
-    let apart = not_true row.by_Row.result.ok c.if1.true in
+    let apart = not-true row.by_Row.result.ok c.if1.true in
     let less = row.before.before.before.loop-test.true in
     record {
       found = λ e. never (sym apart ∙ e);

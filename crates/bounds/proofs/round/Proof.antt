@@ -1,6 +1,6 @@
 -- `bounds::round` meets its contract. Assumes nothing.
 use mathlib.Core.Path.{sym, ◌∙◌}
-use borrow.Author.Tests.{not_true, not-false}
+use borrow.Author.Tests.{not-true, not-false}
 use Rattle.model.proofs.Lists.{never}
 use Rattle.bounds.proofs.round.Statement.{statement}
 use Rattle.bounds.proofs.round.Tie as tie
@@ -12,7 +12,7 @@ by-rows-requires c κs = let pre = c.before.before.requires in (pre.0, pre.2)
 returns : tie.Need-returns
 returns c =
     let tried = c.before.before in
-    let apart = not_true tried.by_rows.result.ok c.if1.true in
+    let apart = not-true tried.by_rows.result.ok c.if1.true in
     record {
       found = λ e. never (sym apart ∙ e);
       none = λ e x y closed inside. tried.by_rows.ensures.none apart x y closed.0 inside;

@@ -6,7 +6,7 @@ use mathlib.Core.List.{List}
 use native.Mathlib.Omega.{arith}
 use lib.Arith.{lt_of_le-ne}
 use lib.ListN.{get_or}
-use borrow.Author.Tests.{not_true, not-false}
+use borrow.Author.Tests.{not-true, not-false}
 use Rattle.trails.specs.Equations.{Equation, equations}
 use Rattle.inequalities.specs.Rows.{Within}
 use Rattle.bounds.specs.Bounds.{sum_of, Some}
@@ -31,7 +31,7 @@ use Rattle.boxes.proofs.+in_box.{statement}
 use Rattle.boxes.proofs.+in_box.Tie.{close}
 
 abbrev μ-in-box : Measures 4 in-box-kinds.ps ℕ
-μ-in-box κs a = sum_of a.1.1.1.1.1.1.1.1.1.0 - sum_of a.1.1.1.1.1.1.1.1.0
+μ-in-box κs a = sum_of a.1.1.1.1.1.1.1.1.0 - sum_of a.1.1.1.1.1.1.1.0
 
 abbrev in-box-at : ℕ → In 4 in-box-kinds.ps
 in-box-at t = and 4 in-box-kinds.ps (is 4 in-box-kinds.ps μ-in-box t) in-box.Pre
@@ -100,7 +100,7 @@ module _ (t : ℕ) where
 
   smaller : (c : Kept)
       → let s = start (shrunk c) in
-      Smaller (es s) (back s) s.args.rows.now s.args.count s.args.alphabets.sets s.args.lo s.args.hi s.args.t (s.args.best.below - 1) (shrunk c).shrink.result
+      Smaller (es s) (back s) s.args.rows.now s.args.count s.args.lo s.args.hi s.args.t (s.args.best.below - 1) (shrunk c).shrink.result
   smaller c = (shrunk c).shrink.ensures.some (some c)
 
   ranges : (c : Kept) → Some (low c) (high c)
@@ -133,7 +133,7 @@ in-box-returns : (t : ℕ) → in-box-lts.Need-returns (claims t) (in-box-at t) 
 in-box-returns t c =
     let s = c.before.before.before.before.before.before in
     let a = s.args in
-    unasked (es t s) (back t s) a.rows.now a.count a.alphabets.sets a.lo a.hi a.t a.best a.shortest c.if1.true
+    unasked (es t s) (back t s) a.rows.now a.count a.lo a.hi a.t a.best a.shortest c.if1.true
 
 in-box-sub-shrink : (t : ℕ) → in-box-lts.Need-overflow-sub-shrink (claims t) (in-box-at t) in-box.Post
 in-box-sub-shrink t c = let more = c.before.if1.false in omega arith
@@ -149,23 +149,23 @@ in-box-returns-2 t c =
     let d = c.before.before.before.before in
     let s = start t d in
     let a = s.args in
-    cut (es t s) (back t s) a.rows.now a.count a.alphabets.sets a.lo a.hi a.t a.best a.shortest (asked t d) d.shrink.result d.shrink.ensures (not_true _ c.before.if2.true)
+    cut (es t s) (back t s) a.rows.now a.count a.lo a.hi a.t a.best a.shortest (asked t d) d.shrink.result d.shrink.ensures (not-true _ c.before.if2.true)
 
 in-box-choose-requires : (t : ℕ) → in-box-lts.Need-choose-requires (claims t) (in-box-at t) in-box.Post
 in-box-choose-requires t c κs = ranges t c
 
 in-box-at-vector-requires : (t : ℕ) → in-box-lts.Need-at-vector-requires (claims t) (in-box-at t) in-box.Post
-in-box-at-vector-requires t c κs = let given = (start t (shrunk t c.before.before.before)).pre.1.0 in (given.cells, given.room, given.few)
+in-box-at-vector-requires t c κs = let given = (start t (shrunk t c.before.before)).pre.1.0 in (given.cells, given.room, given.few)
 
 in-box-returns-3 : (t : ℕ) → in-box-lts.Need-returns-3 (claims t) (in-box-at t) in-box.Post
 in-box-returns-3 t c =
-    let chosen = c.before.before.before in
+    let chosen = c.before.before in
     let k = chosen.before in
     let d = shrunk t k in
     let s = start t d in
     let a = s.args in
-    at_one (es t s) (back t s) a.rows.now a.count a.alphabets.sets a.lo a.hi a.t a.best a.shortest (asked t d) d.shrink.result d.shrink.ensures (some t k)
-    (chosen.choose.ensures.settled c.before.before.if3.true) c.at-vector.result c.at-vector.ensures
+    at_one (es t s) (back t s) a.rows.now a.count a.lo a.hi a.t a.best a.shortest (asked t d) d.shrink.result d.shrink.ensures (some t k)
+    (chosen.choose.ensures.settled c.before.if3.true) c.at-vector.result c.at-vector.ensures
 
 in-box-six-requires : (t : ℕ) → in-box-lts.Need-six-requires (claims t) (in-box-at t) in-box.Post
 in-box-six-requires t c κs = tt
@@ -228,7 +228,7 @@ in-box-returns-4 t c =
     let d = shrunk t k in
     let s = start t d in
     let a = s.args in
-    parted (es t s) (back t s) a.rows.now a.count a.alphabets.sets a.lo a.hi a.t a.best a.shortest (asked t d) d.shrink.result d.shrink.ensures (some t k)
+    parted (es t s) (back t s) a.rows.now a.count a.lo a.hi a.t a.best a.shortest (asked t d) d.shrink.result d.shrink.ensures (some t k)
     q.before.before.before.choose.result (parting t q) first.in-box.result.best c.in-box2.result.best first.in-box.ensures c.in-box2.ensures
 
 pub +in-box-spec : {M : Type 1} → statement M

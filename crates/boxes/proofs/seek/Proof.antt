@@ -36,7 +36,7 @@ returns c =
     let searched = c.before in
     let from = searched.before in
     let a = from.before.before.before.before.before.before.args in
-    begun (try_of (equations a.x.now a.w.now) a.rows.now a.count a.alphabets.sets) a.lo a.hi a.t a.u a.shortest from.none_yet.result searched.in-box.result.best
+    begun (try_of (equations a.x.now a.w.now) a.rows.now a.count) a.lo a.hi a.t a.u a.shortest from.none_yet.result searched.in-box.result.best
     from.none_yet.ensures.0 from.none_yet.ensures.1 searched.in-box.ensures
 
 pub seek-spec : {M : Type 1} → statement M

@@ -1,6 +1,6 @@
--- `boxes::shrink` meets its contract: the ranges are shortened, then the trails are walked, and their letters tested. Assumes nothing.
+-- `boxes::shrink` meets its contract: the ranges are shortened, and then the trails are walked. Assumes nothing.
 use mathlib.Core.Path.{refl}
-use borrow.Author.Tests.{not_true, not-false}
+use borrow.Author.Tests.{not-true, not-false}
 use Rattle.trails.specs.Equations.{equations}
 use Rattle.boxes.proofs.Laws.{emptied, walked}
 use Rattle.boxes.proofs.shrink.Statement.{statement}
@@ -17,8 +17,8 @@ returns c =
     let d = c.before.before.before.before in
     let s = start d in
     let a = s.args in
-    emptied (equations a.x.now a.w.now) (equations a.y.now a.w.now) a.rows.now a.count a.alphabets.sets a.lo a.hi a.t a.u a.b s.pre.2 s.pre.3
-    d.tighten-total.result d.tighten-total.ensures (not_true _ c.if1.true) _ refl
+    emptied (equations a.x.now a.w.now) (equations a.y.now a.w.now) a.rows.now a.count a.lo a.hi a.t a.u a.b s.pre.2 s.pre.3
+    d.tighten-total.result d.tighten-total.ensures (not-true _ c.if1.true) _ refl
 
 narrow-requires : tie.Need-narrow-requires
 narrow-requires c κs =
@@ -27,17 +27,14 @@ narrow-requires c κs =
     let watches = s.pre.3 in
     (given.cells, given.cells_too, given.room, given.room_too, given.few, watches.ahead_follows.located, watches.behind_follows.located)
 
-some-letters-requires : tie.Need-some-letters-requires
-some-letters-requires c κs = tt
-
 returns-2 : tie.Need-returns-2
 returns-2 c =
-    let at = c.before.before in
+    let at = c.before in
     let d = at.before.before.before.before in
     let s = start d in
     let a = s.args in
-    walked (equations a.x.now a.w.now) (equations a.y.now a.w.now) a.rows.now a.count a.alphabets.sets a.lo a.hi a.t a.u a.b s.pre.2 s.pre.3
-    d.tighten-total.result d.tighten-total.ensures (not-false _ at.if1.false) c.before.narrow.result c.before.narrow.ensures c.some-letters.result c.some-letters.ensures
+    walked (equations a.x.now a.w.now) (equations a.y.now a.w.now) a.rows.now a.count a.lo a.hi a.t a.u a.b s.pre.2 s.pre.3
+    d.tighten-total.result d.tighten-total.ensures (not-false _ at.if1.false) c.narrow.result c.narrow.ensures
 
 pub shrink_spec : {M : Type 1} → statement M
-shrink_spec = tie.close (tie.spec tighten-total-requires returns narrow-requires some-letters-requires returns-2)
+shrink_spec = tie.close (tie.spec tighten-total-requires returns narrow-requires returns-2)

@@ -20,9 +20,6 @@ enum-known-equation c = search rules
 enum-known-constraint : tie.Need-enum-known-constraint
 enum-known-constraint c = search rules
 
-enum-known-outside : tie.Need-enum-known-outside
-enum-known-outside c = search rules
-
 enum-known-refusal : tie.Need-enum-known-refusal
 enum-known-refusal c = search rules
 
@@ -57,14 +54,6 @@ returns-3 c =
 
 returns-4 : tie.Need-returns-4
 returns-4 c =
-    let a = c.before.before.before.before.before.before.before.args in
-    let f = c.before.before.outside.given.0.0 in
-    let e : checking a.sheet.now a.filling.now ≡ finished (0 ∷ 3 ∷ f ∷ 0 ∷ 0 ∷ 0 ∷ []) =
-    sym c.before.before.before.before.check.ensures ∙ ap checked c.before.before.outside.given.1 in
-    rw e (refl, refl)
-
-returns-5 : tie.Need-returns-5
-returns-5 c =
     let a = c.before.before.before.before.before.before.before.before.args in
     let at-refusal = c.before.before.before.refusal in
     let at-check = c.before.before.before.before.before.check in
@@ -80,12 +69,10 @@ check-spec =
     enum_told
     enum-known-equation
     enum-known-constraint
-    enum-known-outside
     enum-known-refusal
     number-requires
     minus-requires
     returns
     returns-2
     returns-3
-    returns-4
-    returns-5)
+    returns-4)

@@ -6,7 +6,7 @@ use Rattle.model.specs.Lists.{Puts}
 use Rattle.model.specs.Sheet.{sheet_of}
 use Rattle.formula.proofs.Lines.{file-small}
 use Rattle.calls.proofs.Printing.{clauses_refused, clauses_accepted}
-use Rattle.sheet.specs.Answer.{number_of, answer, admitted}
+use Rattle.sheet.specs.Answer.{number_of, answer, IsAdmitted}
 use Rattle.calls.specs.Report.{refused_line}
 use Rattle.clauses.proofs.answer.Statement.{statement}
 use Rattle.clauses.proofs.answer.Tie as tie
@@ -31,7 +31,7 @@ put-file-requires c κs =
     let at-start = c.before.before.before.before.before.before in
     let at-enum-told = c.before.enum_told in
     let at_read = c.before.before.before.read in
-    let ok = (subst (admitted at-start.args.sheet.now) at-enum-told.given.1 at_read.ensures.1.0) in
+    let ok = (subst (IsAdmitted at-start.args.sheet.now) at-enum-told.given.1 at_read.ensures.1) in
     (ok, omega (arith, file-small (sheet_of at-start.args.sheet.now) ok.1, at-start.requires))
 
 same_length : tie.Need-same-length
@@ -59,7 +59,7 @@ returns-2 c =
     let at-enum-told = c.before.before.before.before.enum_told in
     let at_read = c.before.before.before.before.before.before.read in
     let b = at-start.args.sheet.now in
-    subst (λ w. Puts at-start.args.out.now 0 w at-put-file.new.0 at-put-file.result) (sym (clauses_accepted b (subst (admitted at-start.args.sheet.now) at-enum-told.given.1 at_read.ensures.1.0).0)) at-put-file.ensures
+    subst (λ w. Puts at-start.args.out.now 0 w at-put-file.new.0 at-put-file.result) (sym (clauses_accepted b (subst (IsAdmitted at-start.args.sheet.now) at-enum-told.given.1 at_read.ensures.1).0)) at-put-file.ensures
 
 pub answer-spec : {M : Type 1} → statement M
 answer-spec =

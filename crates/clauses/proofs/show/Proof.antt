@@ -19,22 +19,22 @@ room : (n : ℕ) → n ≤ length (zeros n)
 room n = let e = size n in omega arith
 
 slice-aggregate-answer : tie.Need-slice-aggregate-answer
-slice-aggregate-answer c = size 1825254
+slice-aggregate-answer c = size 1808838
 
 answer-requires : tie.Need-answer-requires
-answer-requires c κs = room 1825254
+answer-requires c κs = room 1808838
 
 array-share-prefix-out : tie.Need-array-share-prefix-out
 array-share-prefix-out c =
     let at-start = c.before.before.before.before in
     let at-answer = c.before.answer in
-    front_fits (zeros 1825254) (clauses_printed at-start.args.sheet.now) at-answer.new.1.0 at-answer.result at-answer.ensures
+    front_fits (zeros 1808838) (clauses_printed at-start.args.sheet.now) at-answer.new.1.0 at-answer.result at-answer.ensures
 
 slice-aggregate-write-all : tie.Need-slice-aggregate-write-all
 slice-aggregate-write-all c =
     let at-start = c.before.before.before.before.before in
     let at-answer = c.before.before.answer in
-    front_length (zeros 1825254) (clauses_printed at-start.args.sheet.now) at-answer.new.1.0 at-answer.result at-answer.ensures
+    front_length (zeros 1808838) (clauses_printed at-start.args.sheet.now) at-answer.new.1.0 at-answer.result at-answer.ensures
 
 write-all-requires : tie.Need-write-all-requires
 write-all-requires c κs = tt

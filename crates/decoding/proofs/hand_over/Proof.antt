@@ -5,14 +5,14 @@ use mathlib.Core.List.{◌++◌}
 use Prim.Native.Nat.{◌*◌}
 use lib.ListN.{length, take, drop}
 use borrow.Author.Rules.{rules}
-use borrow.Author.Tests.{not_true, not-false}
+use borrow.Author.Tests.{not-true, not-false}
 use Rattle.model.specs.Sheet.{sheet_of}
 use Rattle.model.specs.Word as word
 use Rattle.model.specs.Filling.{encode_filling}
 use Rattle.formula.specs.Assignment.{truth}
 use Rattle.formula.specs.Assignment as assignment
 use Rattle.calls.specs.Reply.{all_single, none_after_blank}
-use Rattle.calls.proofs.Decoded.{decoding-place, decoding-blank, decoding-fails, decoding_hands, spelled-sized}
+use Rattle.calls.proofs.Decoded.{decoding-place, decoding-blank, decoding_fails, decoding_hands, spelled-sized}
 use Rattle.calls.proofs.Operations.{keeps_all, hands_values}
 use Rattle.fields.specs.Memory.{texts_of}
 use Rattle.decoding.proofs.hand_over.Statement.{statement}
@@ -24,7 +24,7 @@ all-pass-requires c κs = search rules
 returns : tie.Need-returns
 returns c =
     let start = c.before.before.before.before.before in
-    let single = sym c.before.all_pass.ensures ∙ not_true _ c.if1.true in
+    let single = sym c.before.all_pass.ensures ∙ not-true _ c.if1.true in
     keeps_all 37 start.args.buf.now (decoding-place (sheet_of start.args.sheet.now) (truth start.args.marks.now) single)
 
 -- every place has one value, no letter stands after a blank, and what is spelled solves the sheet or does not
@@ -39,7 +39,7 @@ all-pass-requires-2 c κs = search rules
 returns-2 : tie.Need-returns-2
 returns-2 c =
     let start = c.before.before.before.before.before.before.before in
-    let last = sym c.before.all-pass2.ensures ∙ not_true _ c.if2.true in
+    let last = sym c.before.all-pass2.ensures ∙ not-true _ c.if2.true in
     keeps_all 38 start.args.buf.now (decoding-blank (sheet_of start.args.sheet.now) (truth start.args.marks.now) (ones c.before.before) last)
 
 lasts : (c : tie.Else2) →
@@ -58,8 +58,8 @@ returns-3 c =
     let start = c.before.before.before.before.before.before.before.before.before.before in
     let at-spelled = c.before.before in
     let s = sheet_of start.args.sheet.now in
-    let fails = ap (word.solves s) (sym at-spelled.spelled.ensures.1) ∙ sym c.before.solves.ensures ∙ not_true _ c.if3.true in
-    keeps_all 39 start.args.buf.now (decoding-fails s (truth start.args.marks.now) (ones at-spelled.before.before.before) (lasts at-spelled.before) fails)
+    let fails = ap (word.solves s) (sym at-spelled.spelled.ensures.1) ∙ sym c.before.solves.ensures ∙ not-true _ c.if3.true in
+    keeps_all 39 start.args.buf.now (decoding_fails s (truth start.args.marks.now) (ones at-spelled.before.before.before) (lasts at-spelled.before) fails)
 
 fields-requires : tie.Need-fields-requires
 fields-requires c κs = search rules

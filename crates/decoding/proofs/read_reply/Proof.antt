@@ -11,7 +11,7 @@ use Rattle.calls.specs.Calls.{HandsOver}
 use Rattle.formula.proofs.Numbering.{variable_count_lem}
 use Rattle.calls.proofs.Operations.{keeps_all}
 use Rattle.calls.proofs.Replying.{replying_sheet, replying-room, replying-long, replying-text}
-use Rattle.sheet.specs.Answer.{number_of, answer, admitted}
+use Rattle.sheet.specs.Answer.{number_of, answer, IsAdmitted}
 use Rattle.decoding.specs.Answer.{replied}
 use Rattle.decoding.proofs.Laws.{clear_length, clear_front}
 use Rattle.decoding.proofs.read_reply.Statement.{statement}
@@ -31,7 +31,7 @@ abbrev start : tie.After-enum-told → tie.Start
 start c = c.before.before.before.before.before.before
 
 ready : (c : tie.After-enum-told) → Admitted (start c).args.sheet.now
-ready c = subst (admitted (start c).args.sheet.now) c.enum_told.given.1 c.before.before.read.ensures.1.0
+ready c = subst (IsAdmitted (start c).args.sheet.now) c.enum_told.given.1 c.before.before.read.ensures.1
 
 fields-requires : tie.Need-fields-requires
 fields-requires c κs = ready c

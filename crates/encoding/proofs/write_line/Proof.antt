@@ -13,7 +13,7 @@ use Rattle.formula.specs.Dimacs as dimacs
 use Rattle.calls.specs.Calls.{finished}
 use Rattle.calls.proofs.Operations.{writing_sheet, writing-above, writing-room, writing-line, leaves_all, leaves_text}
 use Rattle.model.proofs.Seams.{front_is, front_fits, front_length, placed_front}
-use Rattle.sheet.specs.Answer.{number_of, answer, admitted}
+use Rattle.sheet.specs.Answer.{number_of, answer, IsAdmitted}
 use Rattle.encoding.specs.Lines.{LineWritten}
 use Rattle.encoding.proofs.write_line.Statement.{statement}
 use Rattle.encoding.proofs.write_line.Tie as tie
@@ -31,7 +31,7 @@ enum_told c = search rules
 ready : (c : tie.After-enum-told) → Admitted c.before.before.before.before.before.args.sheet.now
 ready c =
     let at_read = c.before.before in
-    subst (admitted at_read.before.before.before.args.sheet.now) c.enum_told.given.1 at_read.read.ensures.1.0
+    subst (IsAdmitted at_read.before.before.before.args.sheet.now) c.enum_told.given.1 at_read.read.ensures.1
 
 slice-aggregate-put-line : tie.Need-slice-aggregate-put-line
 slice-aggregate-put-line c = search rules

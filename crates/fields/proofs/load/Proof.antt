@@ -1,4 +1,4 @@
--- `fields::load` meets its contract: what is loaded of an admitted filling means what was read. Assumes nothing.
+-- `fields::load` meets its contract: what is loaded of an IsAdmitted filling means what was read. Assumes nothing.
 use mathlib.Core.Path.{◌≡◌, ap, subst, sym, ◌∙◌}
 use mathlib.Core.List.{[]}
 use lib.ListN.{length}

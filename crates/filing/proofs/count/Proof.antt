@@ -3,7 +3,7 @@ use mathlib.Core.Path.{sym, ap, subst, ◌∙◌}
 use borrow.Author.Rules.{rules}
 use Rattle.calls.specs.Calls.{finished}
 use Rattle.calls.proofs.Operations.{counting_sheet, counting_counts}
-use Rattle.sheet.specs.Answer.{number_of, answer, admitted}
+use Rattle.sheet.specs.Answer.{number_of, answer, IsAdmitted}
 use Rattle.filing.proofs.count.Statement.{statement}
 use Rattle.filing.proofs.count.Tie as tie
 
@@ -20,7 +20,7 @@ clause-counts-requires : tie.Need-clause-counts-requires
 clause-counts-requires c κs =
     let at-start = c.before.before.before.before in
     let at_read = c.before.before.read in
-    subst (admitted at-start.args.sheet.now) c.enum_told.given.1 at_read.ensures.1.0
+    subst (IsAdmitted at-start.args.sheet.now) c.enum_told.given.1 at_read.ensures.1
 
 returns : tie.Need-returns
 returns c =
@@ -32,7 +32,7 @@ returns-2 : tie.Need-returns-2
 returns-2 c =
     let at-start = c.before.before.before.before.before in
     let at_read = c.before.before.before.read in
-    let ok = subst (admitted at-start.args.sheet.now) c.before.enum_told.given.1 at_read.ensures.1.0 in
+    let ok = subst (IsAdmitted at-start.args.sheet.now) c.before.enum_told.given.1 at_read.ensures.1 in
     ap finished c.clause-counts.ensures ∙ sym (counting_counts at-start.args.sheet.now ok.0)
 
 pub count_spec : {M : Type 1} → statement M

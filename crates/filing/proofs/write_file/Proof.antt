@@ -12,7 +12,7 @@ use Rattle.calls.specs.Calls.{finished}
 use Rattle.calls.proofs.Operations.{leaves_all, leaves_text}
 use Rattle.calls.proofs.Filing.{filing_sheet, filing-room, filing-file}
 use Rattle.model.proofs.Seams.{placed_front}
-use Rattle.sheet.specs.Answer.{number_of, answer, admitted}
+use Rattle.sheet.specs.Answer.{number_of, answer, IsAdmitted}
 use borrow.Author.Rules.{rules}
 use Rattle.filing.proofs.write_file.Statement.{statement}
 use Rattle.filing.proofs.write_file.Tie as tie
@@ -33,7 +33,7 @@ start_of c = c.before.before.before.before.before
 ready : (c : tie.After-enum-told) → Admitted (start_of c).args.sheet.now
 ready c =
     let at_read = c.before.before in
-    subst (admitted (start_of c).args.sheet.now) c.enum_told.given.1 at_read.read.ensures.1.0
+    subst (IsAdmitted (start_of c).args.sheet.now) c.enum_told.given.1 at_read.read.ensures.1
 
 bytes_are : (c : tie.After-clause-counts) → c.clause-counts.result.bytes ≡ length (file (sheet_of (start_of c.before).args.sheet.now))
 bytes_are c = ap (λ (counts : List ℕ). get_or counts 2 0) c.clause-counts.ensures ∙ file_size_lem (sheet_of (start_of c.before).args.sheet.now)

@@ -21,12 +21,6 @@ enum-told-2 c = search rules
 wide-requires-2 : tie.Need-wide-requires-2
 wide-requires-2 c κs = search rules
 
-enum-told-3 : tie.Need-enum-told-3
-enum-told-3 c = search rules
-
-wide-requires-3 : tie.Need-wide-requires-3
-wide-requires-3 c κs = search rules
-
 returns : tie.Need-returns
 returns c =
     let at-counts = c.before.before.before in
@@ -41,13 +35,6 @@ returns-2 c =
     ∙ ap (λ (n : Counts). n.constraint_count) at-counts.four-counts.ensures
     ∙ ap (λ k. many k (sheet_of at-counts.before.before.args.sheet.now)) (sym c.before.enum-told2.given.1)
 
-returns-3 : tie.Need-returns-3
-returns-3 c =
-    let at-counts = c.before.before.before in
-    c.wide3.ensures.0
-    ∙ ap (λ (n : Counts). n.field_count) at-counts.four-counts.ensures
-    ∙ ap (λ k. many k (sheet_of at-counts.before.before.args.sheet.now)) (sym c.before.enum-told3.given.1)
-
 pub count_spec : {M : Type 1} → statement M
 count_spec =
-    tie.close (tie.spec four-counts-requires enum_told wide-requires enum-told-2 wide-requires-2 enum-told-3 wide-requires-3 returns returns-2 returns-3)
+    tie.close (tie.spec four-counts-requires enum_told wide-requires enum-told-2 wide-requires-2 returns returns-2)

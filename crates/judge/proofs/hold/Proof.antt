@@ -2,11 +2,11 @@
 use mathlib.Core.Path.{◌≡◌, sym, ◌∙◌}
 use Prim.Native.Nat.{◌+◌, ◌-◌, ◌≤◌}
 use native.Mathlib.Omega.{arith}
-use borrow.Author.Tests.{not_true, not-false}
+use borrow.Author.Tests.{not-true, not-false}
 use Rattle.model.specs.Sheet.{sheet_of}
 use Rattle.fields.specs.Memory.{meaning}
 use Rattle.judge.specs.Asks.{hold_from}
-use Rattle.judge.proofs.Asks.{from-fails, from_next, from-whole}
+use Rattle.judge.proofs.Asks.{from_fails, from_next, from-whole}
 use Rattle.judge.proofs.hold.Statement.{statement}
 use Rattle.judge.proofs.hold.Tie as tie
 
@@ -34,7 +34,7 @@ returns c =
     let at_count = c.before.before.before.before.count in
     let l = c.before.before.before.loop in
     let a = at-start.args in
-    let none = from-fails (sheet_of a.sheet.now) (meaning a.sheet.now a.g) l.i a.kind (omega (arith, at_count.ensures)) (sym c.before.holds.ensures ∙ not_true _ c.if1.true) in
+    let none = from_fails (sheet_of a.sheet.now) (meaning a.sheet.now a.g) l.i a.kind (omega (arith, at_count.ensures)) (sym c.before.holds.ensures ∙ not-true _ c.if1.true) in
     omega arith
 
 add-i : tie.Need-overflow-add-i invariant-loop decreases-loop

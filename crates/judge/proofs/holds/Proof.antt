@@ -24,14 +24,6 @@ constraint-holds-requires c κs =
     let at-start = c.before.before.before in
     (at-start.requires.0, subst (λ k. at-start.args.i < many k (sheet_of at-start.args.sheet.now)) c.enum-told2.given.1 at-start.requires.1)
 
-enum-told-3 : tie.Need-enum-told-3
-enum-told-3 c = search rules
-
-field-keeps-requires : tie.Need-field-keeps-requires
-field-keeps-requires c κs =
-    let at-start = c.before.before.before in
-    (at-start.requires.0, subst (λ k. at-start.args.i < many k (sheet_of at-start.args.sheet.now)) c.enum-told3.given.1 at-start.requires.1)
-
 returns : tie.Need-returns
 returns c =
     let a = c.before.before.before.before.args in
@@ -42,11 +34,6 @@ returns-2 c =
     let a = c.before.before.before.before.args in
     c.constraint-holds.ensures ∙ ap (λ k. holds_at k (sheet_of a.sheet.now) (meaning a.sheet.now a.g) a.i) (sym c.before.enum-told2.given.1)
 
-returns-3 : tie.Need-returns-3
-returns-3 c =
-    let a = c.before.before.before.before.args in
-    c.field-keeps.ensures ∙ ap (λ k. holds_at k (sheet_of a.sheet.now) (meaning a.sheet.now a.g) a.i) (sym c.before.enum-told3.given.1)
-
 pub holds-spec : {M : Type 1} → statement M
 holds-spec =
-    tie.close (tie.spec enum_told equation-holds-requires enum-told-2 constraint-holds-requires enum-told-3 field-keeps-requires returns returns-2 returns-3)
+    tie.close (tie.spec enum_told equation-holds-requires enum-told-2 constraint-holds-requires returns returns-2)

@@ -1,13 +1,12 @@
--- `judge::judge` meets its contract: the first equation whose words differ, else the first constraint that does not hold, else the first field outside its domain,
--- else a solution. Assumes nothing.
+-- `judge::judge` meets its contract: the first equation whose words differ, else the first constraint that does not hold, else a solution. Assumes nothing.
 use mathlib.Core.Path.{sym}
 use Prim.Native.Nat.{◌≤◌}
 use native.Mathlib.Omega.{arith}
 use lib.ListN.{length}
 use borrow.Author.Rules.{rules}
 use Rattle.model.specs.Sheet.{sheet_of}
-use Rattle.model.specs.Mismatch.{first_pair, first_rule}
-use Rattle.model.proofs.Judged.{judged-differs, judged-breaks, judged-outside, judged-solution}
+use Rattle.model.specs.Mismatch.{first_pair}
+use Rattle.model.proofs.Judged.{judged-differs, judged-breaks, judged-solution}
 use Rattle.fields.specs.Memory.{meaning}
 use Rattle.judge.proofs.judge.Statement.{statement}
 use Rattle.judge.proofs.judge.Tie as tie
@@ -51,31 +50,12 @@ returns-2 c =
     let r = c.before.before.hold2.ensures in
     rw r (sym (judged-breaks (sheet_of a.sheet.now) (meaning a.sheet.now a.g) (all_hold c.before.before.before) (omega (arith, r, c.before.count2.ensures))))
 
--- no constraint is broken
-all-kept : (c : tie.Else2) →
-    let a = c.before.before.before.before.before.before.before.args in
-    length (sheet_of a.sheet.now).constraints ≤ first_rule (sheet_of a.sheet.now) (meaning a.sheet.now a.g)
-all-kept c = omega (arith, c.before.before.hold2.ensures, c.before.count2.ensures)
-
-hold-requires-3 : tie.Need-hold-requires-3
-hold-requires-3 c κs = search rules
-
-count-requires-3 : tie.Need-count-requires-3
-count-requires-3 c κs = c.before.before.before.before.before.before.before.before.requires.accepted
-
 returns-3 : tie.Need-returns-3
 returns-3 c =
-    let else2 = c.before.before.before in
-    let a = else2.before.before.before.before.before.before.before.args in
-    let f = c.before.before.hold3.ensures in
-    rw f (sym (judged-outside (sheet_of a.sheet.now) (meaning a.sheet.now a.g) (all_hold else2.before.before.before) (all-kept else2) (omega (arith, f, c.before.count3.ensures))))
-
-returns-4 : tie.Need-returns-4
-returns-4 c =
-    let else2 = c.before.before.before in
-    let a = else2.before.before.before.before.before.before.before.args in
-    let f = c.before.before.hold3.ensures in
-    sym (judged-solution (sheet_of a.sheet.now) (meaning a.sheet.now a.g) (all_hold else2.before.before.before) (all-kept else2) (omega (arith, f, c.before.count3.ensures)))
+    let at_count = c.before.before.before.before in
+    let a = at_count.before.before.before.args in
+    let r = c.before.before.hold2.ensures in
+    sym (judged-solution (sheet_of a.sheet.now) (meaning a.sheet.now a.g) (all_hold c.before.before.before) (omega (arith, r, c.before.count2.ensures)))
 
 pub judge-spec : {M : Type 1} → statement M
 judge-spec =
@@ -88,7 +68,4 @@ judge-spec =
     hold-requires-2
     count-requires-2
     returns-2
-    hold-requires-3
-    count-requires-3
-    returns-3
-    returns-4)
+    returns-3)

@@ -22,9 +22,6 @@ enum-told-2 c = search rules
 enum-told-3 : tie.Need-enum-told-3
 enum-told-3 c = search rules
 
-enum-told-4 : tie.Need-enum-told-4
-enum-told-4 c = search rules
-
 -- what was told decides
 decided : (c : tie.After-judge) →
     let a = c.before.before.args in
@@ -42,10 +39,7 @@ returns-2 c = sym (ap (λ j. is_solution (meant j)) c.enum-told2.given.1) ∙ de
 returns-3 : tie.Need-returns-3
 returns-3 c = sym (ap (λ j. is_solution (meant j)) c.enum-told3.given.1) ∙ decided c.before.before
 
-returns-4 : tie.Need-returns-4
-returns-4 c = sym (ap (λ j. is_solution (meant j)) c.enum-told4.given.1) ∙ decided c.before.before
-
 pub solves-spec : {M : Type 1} → statement M
 solves-spec =
     tie.close
-    (tie.spec judge-requires enum_told enum-told-2 enum-told-3 enum-told-4 returns returns-2 returns-3 returns-4)
+    (tie.spec judge-requires enum_told enum-told-2 enum-told-3 returns returns-2 returns-3)

@@ -6,7 +6,7 @@ use mathlib.Core.List.{List}
 use native.Mathlib.Omega.{arith}
 use lib.Arith.{lt_of_le-ne}
 use lib.ListN.{get_or}
-use borrow.Author.Tests.{not_true, not-false}
+use borrow.Author.Tests.{not-true, not-false}
 use Rattle.model.proofs.Lists.{never}
 use Rattle.unification.specs.declared.Found.{Found}
 use Rattle.trails.specs.Equations.{equations}
@@ -27,7 +27,7 @@ use Rattle.lengths.proofs.+settle.{statement}
 use Rattle.lengths.proofs.+settle.Tie.{close}
 
 abbrev μ-settle : Measures 4 settle-kinds.ps ℕ
-μ-settle κs a = let k = a.1.1.1.1.1.1.1.1.1.1.1.0 in (6 - k) * 1024 + (256 - get_or a.1.1.1.1.1.1.1.0 k 0)
+μ-settle κs a = let k = a.1.1.1.1.1.1.1.1.1.1.0 in (6 - k) * 1024 + (256 - get_or a.1.1.1.1.1.1.0 k 0)
 
 abbrev settle-at : ℕ → In 4 settle-kinds.ps
 settle-at t = and 4 settle-kinds.ps (is 4 settle-kinds.ps μ-settle t) settle.Pre
@@ -77,9 +77,9 @@ module _ (t : ℕ) where
 
   -- what is tried at a vector
   abbrev try : Start → List ℕ → Found
-  try c = try_of (equations c.args.x.now c.args.w.now) c.args.rows.now c.args.count c.args.alphabets.sets
+  try c = try_of (equations c.args.x.now c.args.w.now) c.args.rows.now c.args.count
 
-  parting : (c : Parted) → Parting (whole c).args.t8 (whole c).args.t9 (whole c).args.k
+  parting : (c : Parted) → Parting (whole c).args.t7 (whole c).args.t8 (whole c).args.k
   parting c =
       let pre = (whole c).requires.1 in
       let more = c.before.before.if2.false in
@@ -96,7 +96,7 @@ module _ (t : ℕ) where
   -- past the least length, field k can still be longer, and its length is a byte
   more_left : (c : More)
       → let a = (whole (parted c)).args in
-      (get_or a.t8 a.k 0 < get_or a.t9 a.k 0) × (get_or a.t9 a.k 0 < 256)
+      (get_or a.t7 a.k 0 < get_or a.t8 a.k 0) × (get_or a.t8 a.k 0 < 256)
   more_left c =
       let p = parting (parted c) in
       let low = p.ranges (whole (parted c)).args.k p.inside in
@@ -105,15 +105,15 @@ module _ (t : ℕ) where
       let differ = c.if4.false in
       (omega arith, omega arith)
 
-  settled : (c : Parted) → Settled (whole c).args.t8 (whole c).args.t9 (whole c).args.k
+  settled : (c : Parted) → Settled (whole c).args.t7 (whole c).args.t8 (whole c).args.k
   settled c = (whole c).requires.1.5
 
 settle-returns : (t : ℕ) → settle-lts.Need-returns (claims t) (settle-at t) settle.Post
 settle-returns t c =
     let s = c.before.before.before.before.before.before in
     let a = s.args in
-    let none = not_true _ c.if1.true in
-    nothing (try t s) (Box a.t8 a.t9 a.t a.t) Before a.best none (s.requires.1.6 none)
+    let none = not-true _ c.if1.true in
+    nothing (try t s) (Box a.t7 a.t8 a.t a.t) Before a.best none (s.requires.1.6 none)
 
 settle-any-of-requires : (t : ℕ) → settle-lts.Need-any-of-requires (claims t) (settle-at t) settle.Post
 settle-any-of-requires t c κs = let pre = (start t c.before).pre.1 in (pre.0, pre.1, pre.2, pre.3)
@@ -123,8 +123,8 @@ settle-returns-2 t c =
     let at = c.before in
     let s = start t at.before in
     let a = s.args in
-    let settled : Settled a.t8 a.t9 6 = (λ f l. s.pre.1.5 f (let e = at.if2.true in omega arith)) in
-    one_vector (try t s) a.t8 a.t9 a.t a.t c.any_of.result settled c.any_of.ensures
+    let settled : Settled a.t7 a.t8 6 = (λ f l. s.pre.1.5 f (let e = at.if2.true in omega arith)) in
+    one_vector (try t s) a.t7 a.t8 a.t a.t c.any_of.result settled c.any_of.ensures
 
 settle-six-requires : (t : ℕ) → settle-lts.Need-six-requires (claims t) (settle-at t) settle.Post
 settle-six-requires t c κs = tt

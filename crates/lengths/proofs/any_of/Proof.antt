@@ -16,7 +16,7 @@ seek-requires c κs = search rules
 returns : tie.Need-returns
 returns c =
     let a = c.before.before.before.before.before.before.args in
-    any_found (try_of (equations a.x.now a.w.now) a.rows.now a.count a.alphabets.sets) a.lo a.hi a.t false c.before.seek.result c.before.seek.ensures
+    any_found (try_of (equations a.x.now a.w.now) a.rows.now a.count) a.lo a.hi a.t false c.before.seek.result c.before.seek.ensures
 
 pub any-of-spec : {M : Type 1} → statement M
 any-of-spec = tie.close (tie.spec add-u seek-requires returns)

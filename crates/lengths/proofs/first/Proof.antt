@@ -18,7 +18,7 @@ least-requires c κs = search rules
 returns : tie.Need-returns
 returns c =
     let a = c.before.before.before.before.before.before.before.args in
-    subst (λ (b : Bool). First (try_of (equations a.x.now a.w.now) a.rows.now a.count a.alphabets.sets) (Within a.lo a.hi) (Order b) c.least.result) (sym c.before.if1.true) c.least.ensures
+    subst (λ (b : Bool). First (try_of (equations a.x.now a.w.now) a.rows.now a.count) (Within a.lo a.hi) (Order b) c.least.result) (sym c.before.if1.true) c.least.ensures
 
 beyond-requires : tie.Need-beyond-requires
 beyond-requires c κs = search rules
@@ -31,8 +31,8 @@ returns-2 c =
     let d = c.before in
     let at = d.before in
     let a = at.before.before.before.before.before.before.before.args in
-    let all = all_found (try_of (equations a.x.now a.w.now) a.rows.now a.count a.alphabets.sets) a.lo a.hi at.beyond.result at.beyond.ensures.0 false d.seek.result d.seek.ensures in
-    subst (λ (b : Bool). First (try_of (equations a.x.now a.w.now) a.rows.now a.count a.alphabets.sets) (Within a.lo a.hi) (Order b) d.seek.result.found) (sym at.before.if1.false) all
+    let all = all_found (try_of (equations a.x.now a.w.now) a.rows.now a.count) a.lo a.hi at.beyond.result at.beyond.ensures.0 false d.seek.result d.seek.ensures in
+    subst (λ (b : Bool). First (try_of (equations a.x.now a.w.now) a.rows.now a.count) (Within a.lo a.hi) (Order b) d.seek.result.found) (sym at.before.if1.false) all
 
 pub first_spec : {M : Type 1} → statement M
 first_spec =

@@ -5,7 +5,7 @@ use mathlib.Core.List.{List}
 use Prim.Native.Nat.{ℕ}
 use native.Mathlib.Omega.{arith}
 use borrow.Author.Rules.{rules}
-use borrow.Author.Tests.{not_true, not-false}
+use borrow.Author.Tests.{not-true, not-false}
 use Rattle.model.proofs.Lists.{never}
 use Rattle.unification.specs.declared.Found.{Found}
 use Rattle.trails.specs.Equations.{equations}
@@ -19,7 +19,7 @@ abbrev start : tie.After-seek → tie.Start
 start c = c.before.before.before.before.before.before
 
 abbrev try : tie.Start → List ℕ → Found
-try s = try_of (equations s.args.x.now s.args.w.now) s.args.rows.now s.args.count s.args.alphabets.sets
+try s = try_of (equations s.args.x.now s.args.w.now) s.args.rows.now s.args.count
 
 beyond-requires : tie.Need-beyond-requires
 beyond-requires c κs = search rules
@@ -31,7 +31,7 @@ returns : tie.Need-returns
 returns c =
     let d = c.before.before.before in
     let s = start d in
-    all-missed (try s) s.args.lo s.args.hi d.before.beyond.result d.before.beyond.ensures.0 true d.seek.result d.seek.ensures Sooner (not_true _ c.if1.true)
+    all-missed (try s) s.args.lo s.args.hi d.before.beyond.result d.before.beyond.ensures.0 true d.seek.result d.seek.ensures Sooner (not-true _ c.if1.true)
 
 settle-requires : tie.Need-settle-requires
 settle-requires c κs =

@@ -3,7 +3,7 @@ use mathlib.Core.Path.{◌≡◌, subst}
 use mathlib.Core.Bool.{true}
 use mathlib.Core.Logic.{⊎_elim}
 use borrow.Author.Rules.{rules}
-use borrow.Author.Tests.{eqb-true, eqb-false, not_true, not-false}
+use borrow.Author.Tests.{eqb-true, eqb-false, not-true, not-false}
 use lib.ListN.{length}
 use Rattle.calls.specs.Reply.{line_ended}
 use Rattle.tally.specs.Tally.{ReadLines}
@@ -61,7 +61,7 @@ returns-2 : tie.Need-returns-2
 returns-2 c =
     let known = told c.before in
     ⊎_elim
-    (λ w. form_none _ _ _ _ known (not_true _ w.taken))
+    (λ w. form_none _ _ _ _ known (not-true _ w.taken))
     (⊎_elim (λ w. form_again _ _ _ _ known w.1.taken) (λ w. form_early _ _ _ _ known w.2.taken))
     c.if3.branch
 

@@ -68,83 +68,75 @@ blank-tail-requires c κs =
 enum-known-id-4 : tie.Need-enum-known-id-4
 enum-known-id-4 c = search rules
 
-excluded-requires : tie.Need-excluded-requires
-excluded-requires c κs =
+start-requires : tie.Need-start-requires
+start-requires c κs =
     let start = c.before.before.before.before in
     (start.requires.0, inside start _ c.before.id4.given.1)
 
 enum-known-id-5 : tie.Need-enum-known-id-5
 enum-known-id-5 c = search rules
 
-start-requires : tie.Need-start-requires
-start-requires c κs =
+left-requires : tie.Need-left-requires
+left-requires c κs =
     let start = c.before.before.before.before in
     (start.requires.0, inside start _ c.before.id5.given.1)
 
 enum-known-id-6 : tie.Need-enum-known-id-6
 enum-known-id-6 c = search rules
 
-left-requires : tie.Need-left-requires
-left-requires c κs =
+right-requires : tie.Need-right-requires
+right-requires c κs =
     let start = c.before.before.before.before in
     (start.requires.0, inside start _ c.before.id6.given.1)
 
 enum-known-id-7 : tie.Need-enum-known-id-7
 enum-known-id-7 c = search rules
 
-right-requires : tie.Need-right-requires
-right-requires c κs =
+both-requires : tie.Need-both-requires
+both-requires c κs =
     let start = c.before.before.before.before in
     (start.requires.0, inside start _ c.before.id7.given.1)
 
 enum-known-id-8 : tie.Need-enum-known-id-8
 enum-known-id-8 c = search rules
 
-both-requires : tie.Need-both-requires
-both-requires c κs =
+matching-requires : tie.Need-matching-requires
+matching-requires c κs =
     let start = c.before.before.before.before in
     (start.requires.0, inside start _ c.before.id8.given.1)
 
 enum-known-id-9 : tie.Need-enum-known-id-9
 enum-known-id-9 c = search rules
 
-matching-requires : tie.Need-matching-requires
-matching-requires c κs =
+end-requires : tie.Need-end-requires
+end-requires c κs =
     let start = c.before.before.before.before in
     (start.requires.0, inside start _ c.before.id9.given.1)
 
 enum-known-id-10 : tie.Need-enum-known-id-10
 enum-known-id-10 c = search rules
 
-end-requires : tie.Need-end-requires
-end-requires c κs =
+zero-requires : tie.Need-zero-requires
+zero-requires c κs =
     let start = c.before.before.before.before in
     (start.requires.0, inside start _ c.before.id10.given.1)
 
 enum-known-id-11 : tie.Need-enum-known-id-11
 enum-known-id-11 c = search rules
 
-zero-requires : tie.Need-zero-requires
-zero-requires c κs =
+add-requires : tie.Need-add-requires
+add-requires c κs =
     let start = c.before.before.before.before in
-    (start.requires.0, inside start _ c.before.id11.given.1)
+    let met = c.before.id11.given.1 in
+    rw (add_back start _ _ _ _ met) (start.requires.0, inside start _ met)
 
 enum-known-id-12 : tie.Need-enum-known-id-12
 enum-known-id-12 c = search rules
 
-add-requires : tie.Need-add-requires
-add-requires c κs =
-    let start = c.before.before.before.before in
-    let met = c.before.id12.given.1 in
-    rw (add_back start _ _ _ _ met) (start.requires.0, inside start _ met)
-
-enum-known-id-13 : tie.Need-enum-known-id-13
-enum-known-id-13 c = search rules
-
 bound-requires : tie.Need-bound-requires
 bound-requires c κs =
     let start = c.before.before.before.before in
-    let met = c.before.id13.given.1 in
+    let met = c.before.id12.given.1 in
     rw (bound-back start _ _ met) (start.requires.0, inside start _ met)
 
 returns : tie.Need-returns
@@ -165,55 +157,50 @@ returns-3 c =
 returns-4 : tie.Need-returns-4
 returns-4 c =
     let start = c.before.before.before.before.before in
-    promised start _ c.before.before.id4.given.1 c.excluded.ensures
+    promised start _ c.before.before.id4.given.1 c.start.ensures
 
 returns-5 : tie.Need-returns-5
 returns-5 c =
     let start = c.before.before.before.before.before in
-    promised start _ c.before.before.id5.given.1 c.start.ensures
+    promised start _ c.before.before.id5.given.1 c.left.ensures
 
 returns-6 : tie.Need-returns-6
 returns-6 c =
     let start = c.before.before.before.before.before in
-    promised start _ c.before.before.id6.given.1 c.left.ensures
+    promised start _ c.before.before.id6.given.1 c.right.ensures
 
 returns-7 : tie.Need-returns-7
 returns-7 c =
     let start = c.before.before.before.before.before in
-    promised start _ c.before.before.id7.given.1 c.right.ensures
+    promised start _ c.before.before.id7.given.1 c.both.ensures
 
 returns-8 : tie.Need-returns-8
 returns-8 c =
     let start = c.before.before.before.before.before in
-    promised start _ c.before.before.id8.given.1 c.both.ensures
+    promised start _ c.before.before.id8.given.1 c.matching.ensures
 
 returns-9 : tie.Need-returns-9
 returns-9 c =
     let start = c.before.before.before.before.before in
-    promised start _ c.before.before.id9.given.1 c.matching.ensures
+    promised start _ c.before.before.id9.given.1 c.end.ensures
 
 returns-10 : tie.Need-returns-10
 returns-10 c =
     let start = c.before.before.before.before.before in
-    promised start _ c.before.before.id10.given.1 c.end.ensures
+    promised start _ c.before.before.id10.given.1 c.zero.ensures
 
 returns-11 : tie.Need-returns-11
 returns-11 c =
     let start = c.before.before.before.before.before in
-    promised start _ c.before.before.id11.given.1 c.zero.ensures
+    let v = c.before.before.id11.given.0 in
+    let met = c.before.before.id11.given.1 in
+    promised start _ met (c.add.ensures ∙ ap (λ z. nine (sheet_of start.args.sheet.now) (model.Add v.0 v.1.0 z v.1.1.1.0)) (add_back start _ _ _ _ met))
 
 returns-12 : tie.Need-returns-12
 returns-12 c =
     let start = c.before.before.before.before.before in
     let v = c.before.before.id12.given.0 in
     let met = c.before.before.id12.given.1 in
-    promised start _ met (c.add.ensures ∙ ap (λ z. nine (sheet_of start.args.sheet.now) (model.Add v.0 v.1.0 z v.1.1.1.0)) (add_back start _ _ _ _ met))
-
-returns-13 : tie.Need-returns-13
-returns-13 c =
-    let start = c.before.before.before.before.before in
-    let v = c.before.before.id13.given.0 in
-    let met = c.before.before.id13.given.1 in
     promised start _ met (c.bound.ensures ∙ ap (λ z. nine (sheet_of start.args.sheet.now) (model.Bound v.0 z)) (bound-back start _ _ met))
 
 pub codes-spec : {M : Type 1} → statement M
@@ -227,24 +214,22 @@ codes-spec =
     enum-known-id-3
     blank-tail-requires
     enum-known-id-4
-    excluded-requires
-    enum-known-id-5
     start-requires
-    enum-known-id-6
+    enum-known-id-5
     left-requires
-    enum-known-id-7
+    enum-known-id-6
     right-requires
-    enum-known-id-8
+    enum-known-id-7
     both-requires
-    enum-known-id-9
+    enum-known-id-8
     matching-requires
-    enum-known-id-10
+    enum-known-id-9
     end-requires
-    enum-known-id-11
+    enum-known-id-10
     zero-requires
-    enum-known-id-12
+    enum-known-id-11
     add-requires
-    enum-known-id-13
+    enum-known-id-12
     bound-requires
     returns
     returns-2
@@ -257,5 +242,4 @@ codes-spec =
     returns-9
     returns-10
     returns-11
-    returns-12
-    returns-13)
+    returns-12)

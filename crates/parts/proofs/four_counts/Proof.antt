@@ -1,8 +1,8 @@
--- `parts::four_counts` meets its contract: the version's low byte, and the header's last four. Assumes nothing.
+-- `parts::four_counts` meets its contract: the counts are the header's last four bytes. Assumes nothing.
 use native.Mathlib.Omega.{arith}
 use Prim.Native.Nat.{◌≤◌}
 use lib.ListN.{length}
-use Rattle.model.proofs.Places.{counts_at_low}
+use Rattle.model.proofs.Places.{counts_at_lem}
 use Rattle.parts.proofs.Known.{lent_bytes, header-there}
 use Rattle.parts.proofs.four_counts.Statement.{statement}
 use Rattle.parts.proofs.four_counts.Tie as tie
@@ -22,13 +22,10 @@ shared-slice-read-t7 c = omega (arith, whole c.before.before)
 shared-slice-read-t9 : tie.Need-shared-slice-read-t9
 shared-slice-read-t9 c = omega (arith, whole c.before.before.before)
 
-shared-slice-read-t11 : tie.Need-shared-slice-read-t11
-shared-slice-read-t11 c = omega (arith, whole c.before.before.before.before)
-
 returns : tie.Need-returns
 returns c =
-    let at-start = c.before.before.before.before.before in
-    counts_at_low at-start.args.sheet.now (lent_bytes _ c.before.before.before.before.shared-slice-known.given) at-start.requires
+    let at-start = c.before.before.before.before in
+    counts_at_lem at-start.args.sheet.now (lent_bytes _ c.before.before.before.shared-slice-known.given) at-start.requires
 
 pub four-counts-spec : {M : Type 1} → statement M
 four-counts-spec =
@@ -38,5 +35,4 @@ four-counts-spec =
     shared-slice-read-t5
     shared-slice-read-t7
     shared-slice-read-t9
-    shared-slice-read-t11
     returns)

@@ -4,7 +4,7 @@ use mathlib.Core.Bool.{Bool, true}
 use mathlib.Core.List.{List}
 use Prim.Native.Nat.{ℕ, ◌-◌, ◌<◌, ◌≤◌}
 use native.Mathlib.Omega.{arith}
-use borrow.Author.Tests.{not_true, not-false}
+use borrow.Author.Tests.{not-true, not-false}
 use Rattle.model.specs.Sheet.{sheet_of}
 use Rattle.formula.specs.Assignment.{truth}
 use Rattle.model.proofs.Keeping.{all_below, all_not}
@@ -43,7 +43,7 @@ returns c =
     let l = c.before.before.before.loop in
     let counted = c.before.before.before.before.fields.ensures in
     sym (pass_all a.test (sheet_of a.sheet.now) (truth a.marks.now) ∙ all_not (passes a.sheet.now a.marks.now a.test) _ (l.f - 1) (omega arith)
-    (sym c.before.field-passes.ensures ∙ not_true _ c.if1.true))
+    (sym c.before.field-passes.ensures ∙ not-true _ c.if1.true))
 
 loop-less : tie.Need-loop-smaller invariant-loop decreases-loop
 loop-less c = omega arith

@@ -113,15 +113,12 @@ slice-aggregate-gather c = search rules
 gather-requires : tie.Need-gather-requires
 gather-requires c κs = search rules
 
-alphabets-of-requires : tie.Need-alphabets-of-requires
-alphabets-of-requires c κs = search rules
-
 array-share-prefix-x : tie.Need-array-share-prefix-x
 array-share-prefix-x c = search rules
 
 slice-aggregate-first : tie.Need-slice-aggregate-first
 slice-aggregate-first c =
-    let put = (ahead c.before.before.before.before.before.before.before.before.before).put-equations in
+    let put = (ahead c.before.before.before.before.before.before.before.before).put-equations in
     sym (length-take-le put.result.cells put.last.0 (omega (arith, put.kept.0, put.ensures.few_cells)))
 
 array-share-prefix-y : tie.Need-array-share-prefix-y
@@ -129,22 +126,22 @@ array-share-prefix-y c = search rules
 
 slice-aggregate-first-2 : tie.Need-slice-aggregate-first-2
 slice-aggregate-first-2 c =
-    let put = c.before.before.before.before.before.before.before.before.before.before.put-equations2 in
+    let put = c.before.before.before.before.before.before.before.before.before.put-equations2 in
     sym (length-take-le put.result.cells put.new.0 (omega (arith, put.auto.0, put.ensures.few_cells)))
 
 array-share-prefix-w : tie.Need-array-share-prefix-w
 array-share-prefix-w c = search rules
 
 slice-aggregate-first-3 : tie.Need-slice-aggregate-first-3
-slice-aggregate-first-3 c = sym (few_widths c.before.before.before.before.before.before.before.before.before.before.before)
+slice-aggregate-first-3 c = sym (few_widths c.before.before.before.before.before.before.before.before.before.before)
 
 slice-aggregate-first-4 : tie.Need-slice-aggregate-first-4
 slice-aggregate-first-4 c = search rules
 
 first-requires : tie.Need-first-requires
 first-requires c κs =
-    let put = c.before.before.before.before.before.before.before.before.before.before.before.before in
-    let gather = c.before.before.before.before.before.before.before.before.gather in
+    let put = c.before.before.before.before.before.before.before.before.before.before.before in
+    let gather = c.before.before.before.before.before.before.before.gather in
     let p = (start put).requires in
     let m = s put in
     let a = (start put).args.ask in (
@@ -162,17 +159,16 @@ first-requires c κs =
 
 returns : tie.Need-returns
 returns c =
-    let put = c.before.before.before.before.before.before.before.before.before.before.before.before.before in
-    let gather = c.before.before.before.before.before.before.before.before.before.gather in
+    let put = c.before.before.before.before.before.before.before.before.before.before.before.before in
+    let gather = c.before.before.before.before.before.before.before.before.gather in
     let p = (start put).requires in
     let a = (start put).args.ask in
     let rows = gather.new.1.1.1.0 in
     let first = (start put).args.first in
-    let sets = c.before.before.before.before.before.alphabets-of in
-    first_finds (start put).args.sheet.now p.0 a p.1 rows gather.result sets.result.sets sets.ensures
+    first_finds (start put).args.sheet.now p.0 a p.1 rows gather.result
     (λ g legal. gathered_agrees (s put) p.0.1 g a.equations a.constraints _ rows gather.result gather.ensures)
     first c.first.result
-    (subst (λ (q : List Equation). First (try_of q rows gather.result sets.result.sets) (Within a.lo a.hi) (Order first) c.first.result) (equations-ahead put) c.first.ensures)
+    (subst (λ (q : List Equation). First (try_of q rows gather.result) (Within a.lo a.hi) (Order first) c.first.result) (equations-ahead put) c.first.ensures)
 
 pub find_spec : {M : Type 1} → statement M
 find_spec =
@@ -186,7 +182,6 @@ find_spec =
     put-equations-requires-2
     slice-aggregate-gather
     gather-requires
-    alphabets-of-requires
     array-share-prefix-x
     slice-aggregate-first
     array-share-prefix-y

@@ -13,20 +13,11 @@ letter-passes-requires c κs = search rules
 enum-told-2 : tie.Need-enum-told-2
 enum-told-2 c = search rules
 
-enum-known-role : tie.Need-enum-known-role
-enum-known-role c = search rules
-
-enum-known-role-2 : tie.Need-enum-known-role-2
-enum-known-role-2 c = search rules
-
-set-passes-requires : tie.Need-set-passes-requires
-set-passes-requires c κs = search rules
-
 enum-told-3 : tie.Need-enum-told-3
 enum-told-3 c = search rules
 
-enum-known-role-3 : tie.Need-enum-known-role-3
-enum-known-role-3 c = search rules
+enum-known-role : tie.Need-enum-known-role
+enum-known-role c = search rules
 
 symbol-passes-requires : tie.Need-symbol-passes-requires
 symbol-passes-requires c κs = search rules
@@ -47,22 +38,16 @@ returns-2 : tie.Need-returns-2
 returns-2 c = rw c.enum-told2.given.1 refl
 
 returns-3 : tie.Need-returns-3
-returns-3 c = rw c.before.role.given.1 refl
+returns-3 c = rw c.enum-told3.given.1 refl
 
 returns-4 : tie.Need-returns-4
-returns-4 c = rw c.before.before.role2.given.1 c.set-passes.ensures
+returns-4 c = rw c.before.before.role.given.1 c.symbol-passes.ensures
 
 returns-5 : tie.Need-returns-5
-returns-5 c = rw c.enum-told3.given.1 refl
+returns-5 c = rw c.before.enum-told4.given.1 c.coefficient-passes.ensures
 
 returns-6 : tie.Need-returns-6
-returns-6 c = rw c.before.before.role3.given.1 c.symbol-passes.ensures
-
-returns-7 : tie.Need-returns-7
-returns-7 c = rw c.before.enum-told4.given.1 c.coefficient-passes.ensures
-
-returns-8 : tie.Need-returns-8
-returns-8 c = search rules
+returns-6 c = search rules
 
 pub role-passes-spec : {M : Type 1} → statement M
 role-passes-spec =
@@ -71,11 +56,8 @@ role-passes-spec =
     enum_told
     letter-passes-requires
     enum-told-2
-    enum-known-role
-    enum-known-role-2
-    set-passes-requires
     enum-told-3
-    enum-known-role-3
+    enum-known-role
     symbol-passes-requires
     enum-told-4
     coefficient-passes-requires
@@ -85,6 +67,4 @@ role-passes-spec =
     returns-3
     returns-4
     returns-5
-    returns-6
-    returns-7
-    returns-8)
+    returns-6)

@@ -3,7 +3,7 @@ use mathlib.Core.Path.{◌≡◌, refl, sym, ap, ◌∙◌}
 use Prim.Native.Nat.{◌+◌, ◌-◌, ◌≤◌}
 use native.Mathlib.Omega.{arith}
 use lib.ListN.{length, drop}
-use borrow.Author.Tests.{not_true, not-false}
+use borrow.Author.Tests.{not-true, not-false}
 use Rattle.model.specs.Sheet.{fault, row, rest}
 use Rattle.rows.specs.Progress.{role_of}
 use Rattle.rows.proofs.Rows.{row_starts, row-lacks, row_goes, row_faults, row_done}
@@ -51,7 +51,7 @@ returns-2 c =
     let at-role-passes = c.before.before.role-passes in
     let a = at-start.args in
     let l = at-loop in
-    (ap fault c.role-fault.ensures ∙ sym (l.invariant.2 ∙ row_faults (role_of a.role) a.sheet.now a.at a.n l.i l.before (omega arith) (omega arith) (sym at-role-passes.ensures ∙ not_true _ c.before.if2.true)), tt)
+    (ap fault c.role-fault.ensures ∙ sym (l.invariant.2 ∙ row_faults (role_of a.role) a.sheet.now a.at a.n l.i l.before (omega arith) (omega arith) (sym at-role-passes.ensures ∙ not-true _ c.before.if2.true)), tt)
 
 add-i : tie.Need-overflow-add-i invariant-loop decreases-loop
 add-i c = omega arith

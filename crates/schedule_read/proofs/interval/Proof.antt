@@ -3,7 +3,7 @@ use mathlib.Core.Path.{◌≡◌, sym, ap₂, ◌∙◌}
 use mathlib.Core.Bool.{true}
 use native.Mathlib.Omega.{arith}
 use borrow.Author.Rules.{rules}
-use borrow.Author.Tests.{not_true, not-false}
+use borrow.Author.Tests.{not-true, not-false}
 use Rattle.schedule.specs.Schedule.{Interval, in_week}
 use Rattle.schedule.specs.Offsets.{interval_at}
 use Rattle.schedule_read.proofs.Laws.{out_of_bounds, too_early, in_order}
@@ -35,7 +35,7 @@ asked c = c.in-week.ensures ∙ ap₂ (λ m n. in_week (record { start = m; end 
 returns : tie.Need-returns
 returns c go =
     let k = c.before in
-    out_of_bounds (here k) (start k).args.least go (sym (asked k) ∙ not_true _ c.if1.true)
+    out_of_bounds (here k) (start k).args.least go (sym (asked k) ∙ not-true _ c.if1.true)
 
 -- it is in the week
 inside : (c : tie.Else1) → in_week (here c.before) ≡ true

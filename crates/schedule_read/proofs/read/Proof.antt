@@ -2,7 +2,7 @@
 use mathlib.Core.Path.{◌≡◌, sym, ◌∙◌}
 use mathlib.Core.Bool.{true}
 use borrow.Author.Rules.{rules}
-use borrow.Author.Tests.{not_true, not-false}
+use borrow.Author.Tests.{not-true, not-false}
 use Rattle.parts.proofs.Known.{lent_bytes}
 use Rattle.book.specs.Book.{opens}
 use Rattle.book.proofs.Opening.{opens-long}
@@ -22,7 +22,7 @@ opens-requires c κs = search rules
 returns : tie.Need-returns
 returns c =
     let a = c.before.before.before.before.args in
-    read_shut a.hours.now a.n (sym c.before.opens.ensures ∙ not_true _ c.if1.true)
+    read_shut a.hours.now a.n (sym c.before.opens.ensures ∙ not-true _ c.if1.true)
 
 -- the file has its mark and version
 abbrev start : tie.Else1 → tie.Start
@@ -38,7 +38,7 @@ returns-2 : tie.Need-returns-2
 returns-2 c =
     let else = c.before.before in
     let a = (start else).args in
-    read_strays a.hours.now a.n (opened else) (opens-long mark a.hours.now (opened else)) (sym c.before.fits2.ensures ∙ not_true _ c.if2.true)
+    read_strays a.hours.now a.n (opened else) (opens-long mark a.hours.now (opened else)) (sym c.before.fits2.ensures ∙ not-true _ c.if2.true)
 
 -- and its bytes are those of the templates
 fitted : (c : tie.Else2) → fits (start c.before.before).args.hours.now 5 (start c.before.before).args.n ≡ true

@@ -6,7 +6,7 @@ use Rattle.model.specs.Sheet as model
 use Rattle.model.specs.Sheet.{rest}
 use Rattle.rows.specs.Progress.{left}
 use Rattle.model.proofs.Rests.{rest_stops, rest_goes, constraint-rest}
-use Rattle.rows.proofs.Told.{at_told, fault-told, landed-told, landed-within}
+use Rattle.sections.proofs.Walks.{at_told, fault-told, landed-told, landed-within}
 use borrow.Author.Rules.{rules}
 use Rattle.sections.proofs.constraint.Statement.{statement}
 use Rattle.sections.proofs.constraint.Tie as tie

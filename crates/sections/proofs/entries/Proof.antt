@@ -8,7 +8,7 @@ use Rattle.model.specs.Sheet.{times, rest}
 use Rattle.rows.specs.Progress.{left}
 use Rattle.sections.specs.Sections.{entry_of}
 use Rattle.model.proofs.Rests.{times_starts, times_goes, times_stops, times_done}
-use Rattle.rows.proofs.Told.{within-told}
+use Rattle.sections.proofs.Walks.{within-told}
 use Rattle.sections.proofs.entries.Statement.{statement}
 use Rattle.sections.proofs.entries.Tie as tie
 

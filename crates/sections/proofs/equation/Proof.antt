@@ -5,9 +5,9 @@ use native.Mathlib.Omega.{arith}
 use lib.ListN.{get_or, drop}
 use lib.Seq.{get_or-drop}
 use Rattle.model.specs.Sheet as model
-use Rattle.domain_read.specs.Limits.{limits_in}
+use Rattle.sections.specs.Sections.{limits_in}
 use Rattle.model.proofs.Rests.{counts_stop, counts_read}
-use Rattle.rows.proofs.Told.{at_told, fault-told, landed-told}
+use Rattle.sections.proofs.Walks.{at_told, fault-told, landed-told}
 use borrow.Author.Rules.{rules}
 use Rattle.sections.proofs.equation.Statement.{statement}
 use Rattle.sections.proofs.equation.Tie as tie

@@ -4,13 +4,12 @@ use native.Mathlib.Omega.{arith}
 use mathlib.Core.List.{map}
 use lib.Dec.{leb}
 use lib.ListN.{take, drop}
-use borrow.Author.Tests.{not_true, not-false}
+use borrow.Author.Tests.{not-true, not-false}
 use Rattle.model.specs.Sheet as model
 use Rattle.model.specs.Sheet.{rest}
-use Rattle.domain_read.specs.Limits.{limits_in}
+use Rattle.sections.specs.Sections.{limits_in}
 use Rattle.model.proofs.Rests.{left_stops, right_stops, both_read}
-use Rattle.rows.proofs.Told.{at_told, fault-told, landed-told}
-use Rattle.domain_read.proofs.Walks.{limits-length}
+use Rattle.sections.proofs.Walks.{at_told, fault-told, landed-told, limits-length}
 use borrow.Author.Rules.{rules}
 use Rattle.sections.proofs.sides.Statement.{statement}
 use Rattle.sections.proofs.sides.Tie as tie
@@ -77,7 +76,7 @@ narrow-requires c κs =
     omega (arith, at-start.requires)
 
 returns : tie.Need-returns
-returns c = (sym (both c.before.before.before ∙ rw (sym c.before.narrow.ensures ∙ not_true _ c.if1.true)), tt)
+returns c = (sym (both c.before.before.before ∙ rw (sym c.before.narrow.ensures ∙ not-true _ c.if1.true)), tt)
 
 narrow-requires-2 : tie.Need-narrow-requires-2
 narrow-requires-2 c κs =
@@ -88,7 +87,7 @@ narrow-requires-2 c κs =
     omega (arith, at-start.requires)
 
 returns-2 : tie.Need-returns-2
-returns-2 c = (sym (both c.before.before.before.before.before ∙ rw (sym c.before.before.before.narrow.ensures ∙ not-false _ c.before.before.if1.false, sym c.before.narrow2.ensures ∙ not_true _ c.if2.true)), tt)
+returns-2 c = (sym (both c.before.before.before.before.before ∙ rw (sym c.before.before.before.narrow.ensures ∙ not-false _ c.before.before.if1.false, sym c.before.narrow2.ensures ∙ not-true _ c.if2.true)), tt)
 
 returns-3 : tie.Need-returns-3
 returns-3 c =

@@ -7,7 +7,7 @@ use Rattle.model.specs.Sheet as model
 use Rattle.model.specs.Sheet.{rest}
 use Rattle.rows.specs.Progress.{left, HasLanded}
 use Rattle.model.proofs.Rests.{rest_stops, rest_goes}
-use Rattle.rows.proofs.Told.{at_told, fault-told, landed-told}
+use Rattle.sections.proofs.Walks.{at_told, fault-told, landed-told}
 use borrow.Author.Rules.{rules}
 use Rattle.sections.proofs.tables.Statement.{statement}
 use Rattle.sections.proofs.tables.Tie as tie

@@ -1,9 +1,9 @@
 -- `sheet::body` meets its contract: the walk's fault, bytes left over, or the counts of the sheet that was got. Assumes nothing.
-use mathlib.Core.Path.{refl, ap, ◌∙◌}
+use mathlib.Core.Path.{ap, ◌∙◌}
 use lib.ListN.{drop}
 use Rattle.calls.specs.Calls.{refused}
 use Rattle.model.specs.Sheet.{walk}
-use Rattle.rows.proofs.Told.{at_told, fault-told}
+use Rattle.sections.proofs.Walks.{at_told, fault-told}
 use Rattle.parts.specs.Counts.{counts_of}
 use Rattle.calls.proofs.Read.{ended-fault, ended-left_over, ended-whole}
 use borrow.Author.Rules.{rules}
@@ -29,7 +29,7 @@ returns c =
     let at-walked = c.before.before.before.before.walked in
     let b = at-start.args.sheet.now in
     let w = walk (counts_of at-start.args.counts) (drop 9 b) in
-    (ended-left_over b w at_e.given.0.0 (at_told b w at-walked.ensures.0 at_e.given.1) c.if1.true, tt)
+    ended-left_over b w at_e.given.0.0 (at_told b w at-walked.ensures.0 at_e.given.1) c.if1.true
 
 returns-2 : tie.Need-returns-2
 returns-2 c =
@@ -38,7 +38,7 @@ returns-2 c =
     let at_fault = c.before.before.fault in
     let b = at-start.args.sheet.now in
     let w = walk (counts_of at-start.args.counts) (drop 9 b) in
-    (ap refused c.refusal-of.ensures ∙ ended-fault w (fault-told b w at-walked.ensures.0 at_fault.given.1), tt)
+    ap refused c.refusal-of.ensures ∙ ended-fault w (fault-told b w at-walked.ensures.0 at_fault.given.1)
 
 returns-3 : tie.Need-returns-3
 returns-3 c =
@@ -47,7 +47,7 @@ returns-3 c =
     let at-walked = c.before.before.before.before.walked in
     let b = at-start.args.sheet.now in
     let w = walk (counts_of at-start.args.counts) (drop 9 b) in
-    (ended-whole (counts_of at-start.args.counts) (drop 9 b) b at_e.given.0.0 (at_told b w at-walked.ensures.0 at_e.given.1) c.if1.false, refl)
+    ended-whole (counts_of at-start.args.counts) (drop 9 b) b at_e.given.0.0 (at_told b w at-walked.ensures.0 at_e.given.1) c.if1.false
 
 pub body-spec : {M : Type 1} → statement M
 body-spec =

@@ -7,7 +7,7 @@ use Rattle.model.proofs.Opening.{opening_exact}
 use Rattle.sheet.specs.Answer.{number_of, answer, opening_of}
 use Rattle.parts.specs.Counts.{counts_of}
 use Rattle.parts.proofs.Known.{lent_bytes}
-use Rattle.sheet.proofs.Known.{admitted_by, headed_by}
+use Rattle.sheet.proofs.Known.{admitted_by}
 use borrow.Author.Rules.{rules}
 use Rattle.sheet.proofs.read.Statement.{statement}
 use Rattle.sheet.proofs.read.Tie as tie
@@ -33,7 +33,7 @@ returns c =
     let at-start = c.before.before.before.before.before in
     let at-header = c.before.before.before.header in
     let b = at-start.args.sheet.now in
-    (sym (reading-refused b (number_of c.before.f.given.0.0) (sym at-header.ensures ∙ ap (opening_of b) c.before.f.given.1)), (tt, tt))
+    (sym (reading-refused b (number_of c.before.f.given.0.0) (sym at-header.ensures ∙ ap (opening_of b) c.before.f.given.1)), tt)
 
 returns-2 : tie.Need-returns-2
 returns-2 c =
@@ -42,9 +42,8 @@ returns-2 c =
     let at-header = c.before.before.before.before.header in
     let at-shared-slice-known = c.before.before.before.before.before.shared-slice-known in
     let b = at-start.args.sheet.now in
-    let opened = sym at-header.ensures ∙ ap (opening_of b) at-counts.given.1 in
-    let e : answer c.body.result ≡ reading b = c.body.ensures.0 ∙ sym (reading_walked b (counts_of at-counts.given.0.0) (drop 9 b) opened) in
-    (e, (admitted_by b c.body.result (lent_bytes b at-shared-slice-known.given) e, headed_by b c.body.result at-counts.given.0.0 opened e c.body.ensures.1))
+    let e : answer c.body.result ≡ reading b = c.body.ensures ∙ sym (reading_walked b (counts_of at-counts.given.0.0) (drop 9 b) (sym at-header.ensures ∙ ap (opening_of b) at-counts.given.1)) in
+    (e, admitted_by b c.body.result (lent_bytes b at-shared-slice-known.given) e)
 
 pub read_spec : {M : Type 1} → statement M
 read_spec =

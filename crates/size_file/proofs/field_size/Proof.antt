@@ -5,13 +5,13 @@ use native.Mathlib.Omega.{arith}
 use lib.ListN.{length}
 use Rattle.model.specs.Lists.{each, up_to}
 use Rattle.model.specs.Sheet.{sheet_of, limit}
-use Rattle.values.specs.Lines.{place_lines, field_lines}
+use Rattle.rendering.specs.Lines.{place_lines, field_lines}
 use Rattle.model.proofs.Keeping.{length_none, length_more}
 use Rattle.size_file.proofs.field_size.Statement.{statement}
 use Rattle.size_file.proofs.field_size.Tie as tie
 
 abbrev invariant-loop : tie.invariant-loop
-invariant-loop sheet f limit sum₀ c₀ sum c = (c ≤ limit) × (sum ≡ length (each (up_to c) (place_lines (sheet_of sheet) f))) × (sum ≤ c * 1400)
+invariant-loop sheet f limit sum₀ c₀ sum c = (c ≤ limit) × (sum ≡ length (each (up_to c) (place_lines (sheet_of sheet) f))) × (sum ≤ c * 1300)
 
 abbrev decreases-loop : tie.decreases-loop
 decreases-loop sheet f limit sum₀ c₀ sum c = limit - c

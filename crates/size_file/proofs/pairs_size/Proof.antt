@@ -5,7 +5,7 @@ use Prim.Native.Nat.{ℕ, suc, ◌+◌, ◌-◌, ◌*◌, ◌≤◌}
 use native.Mathlib.Omega.{arith}
 use lib.ListN.{length}
 use Rattle.model.specs.Lists.{each, up_to}
-use Rattle.values.specs.Codes.{pair_lines}
+use Rattle.rendering.specs.Codes.{pair_lines}
 use Rattle.model.proofs.Keeping.{length_none, length_more}
 use Rattle.size_file.proofs.pairs_size.Statement.{statement}
 use Rattle.size_file.proofs.pairs_size.Tie as tie

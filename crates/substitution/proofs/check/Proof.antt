@@ -4,7 +4,7 @@ use borrow.Author.Rules.{rules}
 use Rattle.model.specs.Sheet.{Accepted}
 use Rattle.calls.specs.Calls.{checking}
 use Rattle.calls.proofs.Operations.{sheet_refused, sheet_accepted}
-use Rattle.sheet.specs.Answer.{number_of, answer, admitted}
+use Rattle.sheet.specs.Answer.{number_of, answer, IsAdmitted}
 use Rattle.substitution.proofs.check.Statement.{statement}
 use Rattle.substitution.proofs.check.Tie as tie
 
@@ -22,7 +22,7 @@ ready : (c : tie.After-enum-told) → Accepted c.before.before.before.before.bef
 ready c =
     let at-start = c.before.before.before.before.before in
     let at_read = c.before.before.read in
-    (subst (admitted at-start.args.sheet.now) c.enum_told.given.1 at_read.ensures.1.0).0
+    (subst (IsAdmitted at-start.args.sheet.now) c.enum_told.given.1 at_read.ensures.1).0
 
 check-filling-requires : tie.Need-check-filling-requires
 check-filling-requires c κs = ready c

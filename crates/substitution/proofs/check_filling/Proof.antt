@@ -4,7 +4,7 @@ use borrow.Author.Rules.{rules}
 use Rattle.model.specs.Sheet.{sheet_of}
 use Rattle.model.specs.Filling.{filling}
 use Rattle.calls.proofs.Operations.{filling-refused}
-use Rattle.fields.specs.Answer.{admitted, number_of}
+use Rattle.fields.specs.Answer.{IsAdmitted, number_of}
 use Rattle.substitution.proofs.check_filling.Statement.{statement}
 use Rattle.substitution.proofs.check_filling.Tie as tie
 
@@ -23,7 +23,7 @@ load-requires : tie.Need-load-requires
 load-requires c κs =
     let at-start = c.before.before.before.before.before in
     let at-admit = c.before.before.admit in
-    (at-start.requires, sym at-admit.ensures ∙ ap admitted c.enum_told.given.1)
+    (at-start.requires, sym at-admit.ensures ∙ ap IsAdmitted c.enum_told.given.1)
 
 judge-requires : tie.Need-judge-requires
 judge-requires c κs = c.load.ensures.0
@@ -35,7 +35,7 @@ returns : tie.Need-returns
 returns c =
     let at-start = c.before.before.before.before.before.before in
     let at-admit = c.before.before.before.admit in
-    sym (filling-refused (filling (sheet_of at-start.args.sheet.now) at-start.args.bytes.now) (number_of c.before.fault.given.0.0) _ (sym at-admit.ensures ∙ ap admitted c.before.fault.given.1))
+    sym (filling-refused (filling (sheet_of at-start.args.sheet.now) at-start.args.bytes.now) (number_of c.before.fault.given.0.0) _ (sym at-admit.ensures ∙ ap IsAdmitted c.before.fault.given.1))
 
 returns-2 : tie.Need-returns-2
 returns-2 c =

@@ -5,7 +5,7 @@ use lib.ListN.{length}
 use borrow.Author.Rules.{rules}
 use Rattle.model.specs.Sheet.{Counts, Accepted, sheet_of}
 use Rattle.calls.proofs.Operations.{spelling_sheet, spelling-equation, spelling-side, spelling_on, leaves_all}
-use Rattle.sheet.specs.Answer.{number_of, answer, admitted}
+use Rattle.sheet.specs.Answer.{number_of, answer, IsAdmitted}
 use Rattle.substitution.proofs.spell.Statement.{statement}
 use Rattle.substitution.proofs.spell.Tie as tie
 
@@ -23,7 +23,7 @@ ready : (c : tie.After-enum-told) → Accepted c.before.before.before.before.bef
 ready c =
     let at-start = c.before.before.before.before.before.before in
     let at_read = c.before.before.read in
-    (subst (admitted at-start.args.sheet.now) c.enum_told.given.1 at_read.ensures.1.0).0
+    (subst (IsAdmitted at-start.args.sheet.now) c.enum_told.given.1 at_read.ensures.1).0
 
 four-counts-requires : tie.Need-four-counts-requires
 four-counts-requires c κs = ready c
@@ -74,7 +74,7 @@ returns-4 c =
     let at-start = c.before.before.before.before.before.before.before.before.before.before.before.before.before.before in
     let at-spell-filling = c.before.before.spell-filling in
     let a = at-start.args in
-    let on = spelling_on a.sheet.now a.equation a.side a.bytes.now (length a.buf.now) (ready after-enum-told) (omega (arith, counted after-wide, c.before.before.before.before.before.if1.false)) (omega arith) in
+    let on = spelling_on a.sheet.now a.equation a.side a.bytes.now (length a.buf.now) (ready after-enum-told) (omega (arith, counted after-wide)) (omega arith) in
     rw on at-spell-filling.ensures
 
 pub spell-spec : {M : Type 1} → statement M

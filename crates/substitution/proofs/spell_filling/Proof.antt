@@ -13,7 +13,7 @@ use Rattle.model.proofs.Seams.{front_is, front_fits, front_length, placed_front}
 use Rattle.model.proofs.Templates.{template_in}
 use Rattle.model.proofs.Words.{spell_over}
 use Rattle.calls.proofs.Operations.{spelling-filling, spelling-room, spelling-text, leaves_all, leaves_text}
-use Rattle.fields.specs.Answer.{admitted, number_of}
+use Rattle.fields.specs.Answer.{IsAdmitted, number_of}
 use Rattle.fields.specs.Memory.{texts_of, meaning}
 use Rattle.words.proofs.Meaning.{word-is, can_spell}
 use Rattle.substitution.proofs.spell_filling.Statement.{statement}
@@ -34,7 +34,7 @@ load-requires : tie.Need-load-requires
 load-requires c κs =
     let at-start = c.before.before.before.before.before.before in
     let at-admit = c.before.before.admit in
-    (at-start.requires.0, sym at-admit.ensures ∙ ap admitted c.enum_told.given.1)
+    (at-start.requires.0, sym at-admit.ensures ∙ ap IsAdmitted c.enum_told.given.1)
 
 slice-aggregate-spell : tie.Need-slice-aggregate-spell
 slice-aggregate-spell c = search rules
@@ -114,7 +114,7 @@ returns-2 c =
     let at-start = c.before.before.before.before.before.before.before in
     let at-admit = c.before.before.before.admit in
     let a = at-start.args in
-    leaves_all (number_of c.before.fault.given.0.0) a.buf.now (spelling-filling (sheet_of a.sheet.now) a.equation a.side a.bytes.now (length a.buf.now) (number_of c.before.fault.given.0.0) (sym at-admit.ensures ∙ ap admitted c.before.fault.given.1))
+    leaves_all (number_of c.before.fault.given.0.0) a.buf.now (spelling-filling (sheet_of a.sheet.now) a.equation a.side a.bytes.now (length a.buf.now) (number_of c.before.fault.given.0.0) (sym at-admit.ensures ∙ ap IsAdmitted c.before.fault.given.1))
 
 same_length : tie.Need-same-length
 same_length c = search rules

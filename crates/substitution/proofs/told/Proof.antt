@@ -15,9 +15,6 @@ enum-known-judgement c = search rules
 enum-known-judgement-2 : tie.Need-enum-known-judgement-2
 enum-known-judgement-2 c = search rules
 
-enum-known-judgement-3 : tie.Need-enum-known-judgement-3
-enum-known-judgement-3 c = search rules
-
 returns : tie.Need-returns
 returns c = sym (ap (λ j. finished (judgement_values (meant j))) c.enum_told.given.1)
 
@@ -27,10 +24,7 @@ returns-2 c = sym (ap (λ j. finished (judgement_values (meant j))) c.before.jud
 returns-3 : tie.Need-returns-3
 returns-3 c = sym (ap (λ j. finished (judgement_values (meant j))) c.before.judgement2.given.1)
 
-returns-4 : tie.Need-returns-4
-returns-4 c = sym (ap (λ j. finished (judgement_values (meant j))) c.before.judgement3.given.1)
-
 pub told-spec : {M : Type 1} → statement M
 told-spec =
     tie.close
-    (tie.spec enum_told enum-known-judgement enum-known-judgement-2 enum-known-judgement-3 returns returns-2 returns-3 returns-4)
+    (tie.spec enum_told enum-known-judgement enum-known-judgement-2 returns returns-2 returns-3)

@@ -3,7 +3,7 @@ use mathlib.Core.Path.{sym, ◌∙◌}
 use mathlib.Core.Logic.{⊎_elim}
 use native.Mathlib.Omega.{arith}
 use borrow.Author.Rules.{rules}
-use borrow.Author.Tests.{eqb-true, eqb-false, not_true, not-false}
+use borrow.Author.Tests.{eqb-true, eqb-false, not-true, not-false}
 use Rattle.tally.proofs.Texts.{line_empty, line_status, line-comment, line_other, line-values}
 use Rattle.tally.proofs.read_line.Statement.{statement}
 use Rattle.tally.proofs.read_line.Tie as tie
@@ -49,7 +49,7 @@ returns-4 c =
     let status = sym at-if2.before.before.same.ensures ∙ at-if2.before.if1.false in
     let other = c.before.before.before.if3.false in
     line_other line status other at-find.result at-find.ensures.0
-    (⊎_elim (λ w v one. w.taken v) (λ w v one. eqb-false at-find.result 1 (not_true _ w.1.taken) one) c.if4.branch)
+    (⊎_elim (λ w v one. w.taken v) (λ w v one. eqb-false at-find.result 1 (not-true _ w.1.taken) one) c.if4.branch)
 
 either-requires-2 : tie.Need-either-requires-2
 either-requires-2 c κs = search rules

@@ -4,22 +4,22 @@ use Prim.Native.Nat.{◌-◌, ◌<◌, ◌≤◌}
 use native.Mathlib.Omega.{arith}
 use borrow.Author.Rules.{rules}
 use lib.ListN.{length}
-use Rattle.unification.specs.Names.{repl, map_field, app, no_field}
+use Rattle.unification.specs.Names.{renames, map_field, app, no_field}
 use Rattle.unification.proofs.Loops.{mapped, mapped_none, mapped_next, mapped_all}
 use Rattle.unification.proofs.rename.Statement.{statement}
 use Rattle.unification.proofs.rename.Tie as tie
 
 abbrev invariant-loop : tie.invariant-loop
-invariant-loop u v g h₀ f₀ h f = (f ≤ 6) × (h ≡ mapped (map_field (repl u v)) g f)
+invariant-loop by g h₀ f₀ h f = (f ≤ 6) × (h ≡ mapped (map_field (renames by)) g f)
 
 abbrev decreases-loop : tie.decreases-loop
-decreases-loop u v g h₀ f₀ h f = 6 - f
+decreases-loop by g h₀ f₀ h f = 6 - f
 
 six-requires : tie.Need-six-requires invariant-loop decreases-loop
 six-requires c κs = search rules
 
 loop-holds : tie.Need-loop-init invariant-loop decreases-loop
-loop-holds c = let a = c.before.args in (omega arith, mapped_none (map_field (repl a.u a.v)) no_field a.t1)
+loop-holds c = let a = c.before.args in (omega arith, mapped_none (map_field (renames a.by)) no_field a.t1)
 
 mul-t : tie.Need-overflow-mul-t invariant-loop decreases-loop
 mul-t c = search rules
@@ -47,7 +47,7 @@ loop-again c =
     let at-loop = c.before.before.before in
     let a = at-loop.before.before.args in
     let more : at-loop.loop.f < length a.t1 = omega arith in
-    (omega arith, rw (at-loop.loop.invariant.1, c.rename-field.ensures) (mapped_next (map_field (repl a.u a.v)) no_field a.t1 at-loop.loop.f more))
+    (omega arith, rw (at-loop.loop.invariant.1, c.rename-field.ensures) (mapped_next (map_field (renames a.by)) no_field a.t1 at-loop.loop.f more))
 
 returns : tie.Need-returns invariant-loop decreases-loop
 unfolding app
@@ -55,7 +55,7 @@ returns c =
     let at-loop = c.before in
     let a = at-loop.before.before.args in
     let all : length a.t1 ≤ at-loop.loop.f = omega arith in
-    rw (at-loop.loop.invariant.1, mapped_all (map_field (repl a.u a.v)) no_field a.t1 at-loop.loop.f all)
+    rw (at-loop.loop.invariant.1, mapped_all (map_field (renames a.by)) no_field a.t1 at-loop.loop.f all)
 
 pub rename-spec : {M : Type 1} → statement M
 rename-spec =

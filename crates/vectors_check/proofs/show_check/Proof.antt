@@ -40,32 +40,17 @@ write-all-requires c κs = search rules
 enum-known-checking-3 : tie.Need-enum-known-checking-3
 enum-known-checking-3 c = search rules
 
-slice-aggregate-show-number-2 : tie.Need-slice-aggregate-show-number-2
-slice-aggregate-show-number-2 c = search rules
-
-show-number-requires-2 : tie.Need-show-number-requires-2
-show-number-requires-2 c κs = search rules
-
-slice-aggregate-write-all-2 : tie.Need-slice-aggregate-write-all-2
-slice-aggregate-write-all-2 c = search rules
-
-write-all-requires-2 : tie.Need-write-all-requires-2
-write-all-requires-2 c κs = search rules
-
-enum-known-checking-4 : tie.Need-enum-known-checking-4
-enum-known-checking-4 c = search rules
-
 number-requires : tie.Need-number-requires
 number-requires c κs = search rules
 
 show-refused-requires : tie.Need-show-refused-requires
 show-refused-requires c κs = search rules
 
-slice-aggregate-write-all-3 : tie.Need-slice-aggregate-write-all-3
-slice-aggregate-write-all-3 c = search rules
+slice-aggregate-write-all-2 : tie.Need-slice-aggregate-write-all-2
+slice-aggregate-write-all-2 c = search rules
 
-write-all-requires-3 : tie.Need-write-all-requires-3
-write-all-requires-3 c κs = search rules
+write-all-requires-2 : tie.Need-write-all-requires-2
+write-all-requires-2 c κs = search rules
 
 returns : tie.Need-returns
 returns c = search rules
@@ -78,9 +63,6 @@ returns-3 c = search rules
 
 returns-4 : tie.Need-returns-4
 returns-4 c = search rules
-
-returns-5 : tie.Need-returns-5
-returns-5 c = search rules
 
 pub show-check-spec : {M : Type 1} → statement M
 show-check-spec =
@@ -97,17 +79,11 @@ show-check-spec =
     slice-aggregate-write-all
     write-all-requires
     enum-known-checking-3
-    slice-aggregate-show-number-2
-    show-number-requires-2
-    slice-aggregate-write-all-2
-    write-all-requires-2
-    enum-known-checking-4
     number-requires
     show-refused-requires
-    slice-aggregate-write-all-3
-    write-all-requires-3
+    slice-aggregate-write-all-2
+    write-all-requires-2
     returns
     returns-2
     returns-3
-    returns-4
-    returns-5)
+    returns-4)

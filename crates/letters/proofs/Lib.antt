@@ -1,4 +1,0 @@
-pub mod Tests
-pub mod Settling
-pub mod Least
-pub mod Laws

@@ -1,0 +1,16 @@
+-- `unification::settled` meets its contract, test by test. Assumes nothing.
+use borrow.Author.Tests.{lt-ltb, le-ltb, eq-eqb, ne_eqb}
+use Rattle.unification.proofs.settled.Statement.{statement}
+use Rattle.unification.proofs.settled.Tie as tie
+
+returns : tie.Need-returns
+returns c = simp (lt-ltb _ _ c.if1.true)
+
+returns-2 : tie.Need-returns-2
+returns-2 c = simp (le-ltb _ _ c.before.if1.false, eq-eqb _ _ c.if2.true)
+
+returns-3 : tie.Need-returns-3
+returns-3 c = simp (le-ltb _ _ c.before.if1.false, ne_eqb _ _ c.if2.false)
+
+pub settled-spec : {M : Type 1} → statement M
+settled-spec = tie.close (tie.spec returns returns-2 returns-3)
