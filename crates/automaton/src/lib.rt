@@ -1,4 +1,5 @@
 // Searching a sheet for its first solution: what is found is handed over once it has passed the check.
+#![tactic(auto)]
 ghost use Rattle.std.specs.Prelude.{◌≡◌, ◌*◌, ◌≤◌, length};
 ghost use Rattle.model.specs.Sheet.{sheet_of};
 ghost use Rattle.model.specs.Range.{Admitted};
@@ -9,14 +10,14 @@ use fields::FIELD_BYTES;
 use solution::solve;
 
 // What searching refuses, by document 01's numbers: what reading a sheet refuses, and 27.
-#[derive(Drop)]
+#[derive(Clone, Copy)]
 pub enum Refusal {
     Sheet(sheet::Refusal),
     Room,
 }
 
 // The answer of searching (document 01: clash, or apart).
-#[derive(Drop)]
+#[derive(Clone, Copy)]
 pub enum Verdict {
     Solution,
     Unsatisfiable,

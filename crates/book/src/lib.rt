@@ -1,1 +1,3 @@
 // A book of templates: definitions (specs/) and theorems (proofs/) alone, no code.
+
+#![tactic(auto)]

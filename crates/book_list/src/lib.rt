@@ -1,5 +1,6 @@
 // The list of a book: which of its templates clash, each two asked by `book_ask`. A table says which pairs are wanted, so that no other is asked. The list is made in
 // a buffer of its own, so that nothing is written to the lent one before it is known to be long enough.
+#![tactic(auto)]
 ghost use Rattle.std.specs.Prelude.{◌≡◌, [], ◌∷◌, ◌+◌, ◌<◌, ◌≤◌, length};
 ghost use Rattle.model.specs.Lists.{when, Puts};
 ghost use Rattle.calls.specs.Calls.{listing, comparing, Decides};
@@ -14,7 +15,7 @@ use scan::stretch;
 use words::put;
 
 // What is refused, by document 02's numbers: what reading a book refuses, what reading its hours refuses, and 42.
-#[derive(Drop)]
+#[derive(Clone, Copy)]
 pub enum Refusal {
     Book(book_read::Refusal),
     Hours(schedule_read::Refusal),
@@ -22,7 +23,7 @@ pub enum Refusal {
 }
 
 // The answer: how many pairs of templates are listed.
-#[derive(Drop)]
+#[derive(Clone, Copy)]
 pub enum Compared {
     Listed(usize),
     Refused(Refusal),

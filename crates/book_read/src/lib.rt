@@ -1,4 +1,5 @@
 // Reads a book of templates: accepted, or document 02's refusal 40 or 41. It knows nothing of what a book asks.
+#![tactic(auto)]
 ghost use Rattle.std.specs.Prelude.{◌≡◌, ◌+◌, ◌≤◌, length, drop};
 ghost use Rattle.model.specs.Sheet.{times};
 ghost use Rattle.book.specs.Book.{a_template, body, some_symbols, some_templates};
@@ -10,21 +11,21 @@ use scan::{VERSION_HIGH, VERSION_LOW, WIDEST, in_range, starts_with, stretch, wi
 use sections::width_of;
 
 // How far the walk came: to this offset, or not past a fault.
-#[derive(Drop)]
+#[derive(Clone, Copy)]
 pub enum Walk {
     At(usize),
     Stopped,
 }
 
 // What reading refuses a book for: 40 and 41.
-#[derive(Drop)]
+#[derive(Clone, Copy)]
 pub enum Refusal {
     Mark,
     Book,
 }
 
 // The answer of reading.
-#[derive(Drop)]
+#[derive(Clone, Copy)]
 pub enum Reading {
     Accepted,
     Refused(Refusal),

@@ -1,6 +1,7 @@
 // The search in boxes of lengths. A box is every vector from `lo` to `hi`; its ranges are shortened by the rows and by the totals that are asked for, and its
 // two trails are walked as far as they go. A box is cut where nothing is left of a range, or where a walk fails; a box of one vector is tried; any other is
 // parted by the length of one field, which `choice` names.
+#![tactic(auto)]
 ghost use Rattle.std.specs.Prelude.{◌≡◌, false, ◌≤◌, length};
 ghost use Rattle.walk.specs.Walk.{Cells};
 ghost use Rattle.trails.specs.Equations.{equations, cell_total};
@@ -17,7 +18,7 @@ use trails::Board;
 use unification::Found;
 
 // What is left of a box, with its trails; not ok where there is nothing.
-#[derive(Drop)]
+#[derive(Clone, Copy)]
 pub struct Left {
     pub ok: bool,
     pub lo: Lengths,
@@ -26,14 +27,14 @@ pub struct Left {
 }
 
 // The best answer so far, and the total below which answers are asked for.
-#[derive(Drop)]
+#[derive(Clone, Copy)]
 pub struct Best {
     pub found: Found,
     pub below: u16,
 }
 
 // The best answer after a box, and the equation that failed last: it is the next to look at.
-#[derive(Drop)]
+#[derive(Clone, Copy)]
 struct Searched {
     best: Best,
     last: u8,

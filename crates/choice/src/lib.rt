@@ -1,5 +1,6 @@
 // Which field parts a box of lengths. It is one whose length is open; that is all that is promised. Which one decides how fast the search is: best is a field
 // at which the equation that failed last stands, or else one whose open fields are used the fewest times; then one at which many walks stand.
+#![tactic(auto)]
 ghost use Rattle.std.specs.Prelude.{ℕ, ◌+◌, ◌<◌, ◌≤◌, get_or};
 ghost use Rattle.choice.specs.Chosen.{Chosen};
 
@@ -11,7 +12,7 @@ use trails::Board;
 pub type Uses = [u8; 24];
 
 // What speaks for each field: how often walks stand at it, and whether it is near: an equation of the least distance stands at it. Index 6 is for no field.
-#[derive(Drop)]
+#[derive(Clone, Copy)]
 struct Choice {
     fewest: usize,
     near: [bool; 7],

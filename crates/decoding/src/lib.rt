@@ -1,4 +1,5 @@
 // A solver's reply, read without trusting it: what it says of the fields' places, and the substitution that is handed over if it solves the sheet.
+#![tactic(auto)]
 ghost use Rattle.std.specs.Prelude.{◌≡◌, ◌*◌, ◌≤◌, length, replicate};
 ghost use Rattle.model.specs.Sheet.{sheet_of};
 ghost use Rattle.formula.specs.Numbering.{variables};
@@ -18,7 +19,7 @@ const MOST_REPLY: usize = 65536;
 const MOST_MARKS: usize = 5649;
 
 // What reading a reply refuses, by document 01's numbers: what reading a sheet refuses, 27, 30, 31 to 36 of the text, and 37 to 39.
-#[derive(Drop)]
+#[derive(Clone, Copy)]
 pub enum Refusal {
     Sheet(sheet::Refusal),
     Room,
@@ -30,7 +31,7 @@ pub enum Refusal {
 }
 
 // The answer of reading a reply.
-#[derive(Drop)]
+#[derive(Clone, Copy)]
 pub enum Reply {
     Accepted,
     Refused(Refusal),

@@ -1,4 +1,5 @@
 // One line of a sheet's clause file, found by its number.
+#![tactic(auto)]
 ghost use Rattle.std.specs.Prelude.{◌≡◌, suc, ◌≤◌, length};
 ghost use Rattle.model.specs.Lists.{Puts};
 ghost use Rattle.model.specs.Sheet.{sheet_of};
@@ -9,7 +10,7 @@ ghost use Rattle.encoding.specs.Answer.{number_of, lined};
 ghost use Rattle.encoding.specs.Lines.{LineWritten};
 
 // What writing a line refuses, by document 01's numbers: what reading refuses, 28 and 29.
-#[derive(Drop)]
+#[derive(Clone, Copy)]
 pub enum Refusal {
     Sheet(sheet::Refusal),
     Line,
@@ -17,7 +18,7 @@ pub enum Refusal {
 }
 
 // The answer of writing a line.
-#[derive(Drop)]
+#[derive(Clone, Copy)]
 pub enum Writing {
     Length(usize),
     Refused(Refusal),
@@ -38,7 +39,7 @@ pub fn number(refusal: Refusal) -> u8
 }
 
 // What is written of a line: its length, or that n is above C.
-#[derive(Drop)]
+#[derive(Clone, Copy)]
 enum Written {
     Length(usize),
     Above,

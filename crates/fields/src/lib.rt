@@ -1,4 +1,5 @@
 // A substitution (document 01: a filling) in memory, six fields of eight letter places and a length by value, and as bytes: read, and written.
+#![tactic(auto)]
 ghost use Rattle.std.specs.Prelude.{◌≡◌, [], ◌++◌, ◌+◌, ◌*◌, ◌≤◌, length, take, drop};
 ghost use Rattle.model.specs.Lists.{All};
 ghost use Rattle.model.specs.Sheet.{got, rest, Accepted, sheet_of};
@@ -21,7 +22,7 @@ pub const PAST: u8 = 255;
 pub const MOST_BYTES: usize = 54;
 
 // A field's text: letter numbers, 255 past the length.
-#[derive(Drop)]
+#[derive(Clone, Copy)]
 pub struct Field {
     pub letters: [u8; PLACES],
     pub len: u8,
@@ -39,7 +40,7 @@ pub const EMPTY: Field = Field {
 pub type Lengths = [u8; FIELDS];
 
 // What a filling's bytes are refused for, by document 01's numbers 20 to 23.
-#[derive(Drop)]
+#[derive(Clone, Copy)]
 pub enum Fault {
     Size,
     Length,
@@ -48,7 +49,7 @@ pub enum Fault {
 }
 
 // Whether bytes are IsAdmitted, those of a field or of a filling.
-#[derive(Drop)]
+#[derive(Clone, Copy)]
 pub enum Admission {
     Admitted,
     Refused(Fault),

@@ -1,4 +1,5 @@
 // The clause file of a sheet as a whole: how many variables, clauses and bytes it has, and all its lines at once.
+#![tactic(auto)]
 ghost use Rattle.std.specs.Prelude.{◌≡◌, length};
 ghost use Rattle.model.specs.Sheet.{sheet_of};
 ghost use Rattle.model.specs.Range.{Admitted};
@@ -6,7 +7,7 @@ ghost use Rattle.calls.specs.Calls.{clause_counts, counting, filing, Writes};
 ghost use Rattle.filing.specs.Answer.{number_of, three_counts, counted, filed};
 
 // What counting answers: the variables, the clauses, and the file's bytes.
-#[derive(Drop)]
+#[derive(Clone, Copy)]
 pub struct ClauseCounts {
     pub variables: usize,
     pub clauses: usize,
@@ -14,21 +15,21 @@ pub struct ClauseCounts {
 }
 
 // The answer of counting, which refuses only what reading refuses.
-#[derive(Drop)]
+#[derive(Clone, Copy)]
 pub enum Counting {
     Counts(ClauseCounts),
     Refused(sheet::Refusal),
 }
 
 // What writing the file refuses: what reading refuses, and 29.
-#[derive(Drop)]
+#[derive(Clone, Copy)]
 pub enum Refusal {
     Sheet(sheet::Refusal),
     Room,
 }
 
 // The answer of writing the file.
-#[derive(Drop)]
+#[derive(Clone, Copy)]
 pub enum Filing {
     Length(usize),
     Refused(Refusal),

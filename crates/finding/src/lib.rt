@@ -1,4 +1,5 @@
 // Finds the clause of a number, counted from 0: whole parts are skipped by their counts.
+#![tactic(auto)]
 ghost use Rattle.std.specs.Prelude.{◌≡◌, ◌+◌, ◌<◌, ◌≤◌, pos, ◌+ℤ◌, length};
 ghost use Rattle.model.specs.Lists.{total};
 ghost use Rattle.model.specs.Sheet.{sheet_of, constraint};
@@ -82,7 +83,7 @@ fn in_part(sheet: &[u8], section: Section, i: usize, n: usize) -> ClauseId
 }
 
 // What is found at a number: the name of its clause; or, where there are too few clauses, the number less how many there are.
-#[derive(Drop)]
+#[derive(Clone, Copy)]
 pub enum Found {
     Clause(ClauseId),
     Past(usize),

@@ -1,5 +1,6 @@
 // Text that gives bytes in hexadecimal, as the programs take their vectors: where a part of it ends
 // and the next begins, which bytes it gives, and such a byte as a length.
+#![tactic(auto)]
 ghost use Rattle.std.specs.Prelude.{◌≡◌, ◌≤◌, length, take};
 
 // What `digit` answers for a byte that is no digit.

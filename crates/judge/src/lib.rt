@@ -1,5 +1,6 @@
 // What a substitution comes to on an accepted sheet: it solves it, since every equation's two words are the same and every constraint holds; or the first cause why
 // it does not.
+#![tactic(auto)]
 ghost use Rattle.std.specs.Prelude.{◌≡◌, ◌<◌, length};
 ghost use Rattle.model.specs.Sheet.{Accepted, sheet_of, equation, constraint};
 ghost use Rattle.model.specs.Word.{weight};
@@ -14,7 +15,7 @@ use mismatch::{Mismatch, compare_sides};
 use scan::wide;
 
 // What a substitution comes to: it solves the sheet; or the first equation whose two words differ; or the first constraint that does not hold.
-#[derive(Drop)]
+#[derive(Clone, Copy)]
 pub enum Judgement {
     Solution,
     Differs(usize, Mismatch),
@@ -54,7 +55,7 @@ fn constraint_holds(sheet: &[u8], r: usize, g: Substitution) -> bool
 }
 
 // What a sheet asks, by its kind.
-#[derive(Drop)]
+#[derive(Clone, Copy)]
 enum Kind {
     Equations,
     Constraints,

@@ -1,5 +1,6 @@
 // Of which kind a location of an equation is, by what stands on its two sides, and how many clauses each kind has: document 02's No. 2. A row of locations
 // is counted from how many of each kind it has.
+#![tactic(auto)]
 ghost use Rattle.std.specs.Prelude.{◌≡◌, ℕ, ◌+◌, ◌*◌, ◌<◌, ◌≤◌, get_or};
 ghost use Rattle.formula.specs.Kind.{used, at_letter, at_field, kind, kind_count};
 ghost use Rattle.formula.specs.Count.{location_count};
@@ -11,7 +12,7 @@ use scan::wide;
 use shape::{FIRST_PLACE, ROOM, USED};
 
 // The kinds, in the request's order.
-#[derive(Drop)]
+#[derive(Clone, Copy)]
 pub enum Kind {
     SameLetterTwice,
     DifferentLetters,
@@ -100,7 +101,7 @@ const LETTERS: usize = 8;
 
 // What stands on the right of an equation: how many letters, how many places, how many clauses the letters have together where a place is on the left, and
 // how often each letter stands there. The third is added up letter by letter, so that letters may come to differ in it.
-#[derive(Drop)]
+#[derive(Clone, Copy)]
 pub struct Census {
     pub letters: usize,
     pub places: usize,

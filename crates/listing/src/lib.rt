@@ -1,12 +1,13 @@
 // Whether the text of a solver's reply lists an assignment. Nothing here knows of a sheet; the text's numbers are judged by the lent marks, one for
 // each number from 0 on.
+#![tactic(auto)]
 ghost use Rattle.std.specs.Prelude.{◌≡◌, ◌<◌, ◌≤◌, length, replicate};
 ghost use Rattle.listing.specs.Answer.{number_of, Form};
 
 use tally::{LINE_END, Lines, UNLISTED};
 
 // What a text is refused for, by document 01's numbers 31 to 36.
-#[derive(Drop)]
+#[derive(Clone, Copy)]
 pub enum Fault {
     End,
     Line,
@@ -17,7 +18,7 @@ pub enum Fault {
 }
 
 // Whether a text lists an assignment.
-#[derive(Drop)]
+#[derive(Clone, Copy)]
 pub enum Listing {
     Listed,
     Refused(Fault),

@@ -1,4 +1,5 @@
 // A clause by its name, its literals as codes (twice the variable's number, and one more for its negation; 0 for none), and its line.
+#![tactic(auto)]
 ghost use Rattle.std.specs.Prelude.{◌≡◌, ◌+◌, ◌-◌, ◌*◌, ◌<◌, ◌≤◌, ltb, length, pos, ◌+ℤ◌, ◌*ℤ◌};
 ghost use Rattle.model.specs.Lists.{Puts};
 ghost use Rattle.model.specs.Sheet.{sheet_of, limit, constraint, coefficient};
@@ -14,7 +15,7 @@ ghost use Rattle.literals.specs.Name.{name_of, line_of};
 use codes::{IS, IS_NOT, MOST_LITERALS, location_code, place_code, sum_code};
 
 // The name of a clause: of a place of a field; of an equation, or a location of it; of a constraint. The sums of Add and Bound are signed.
-#[derive(Drop)]
+#[derive(Clone, Copy)]
 pub enum ClauseId {
     SomeValue(usize, usize),
     NotBoth(usize, usize, usize, usize),

@@ -1,4 +1,5 @@
 // Two words compared: how many letters agree from the start, and which rest is left over; and the two words of an equation. It decides nothing.
+#![tactic(auto)]
 ghost use Rattle.std.specs.Prelude.{◌≡◌, ◌<◌, ltb, length};
 ghost use Rattle.model.specs.Lists.{pick};
 ghost use Rattle.model.specs.Sheet.{Sheet, sheet_of};
@@ -9,7 +10,7 @@ use fields::Substitution;
 use scan::WIDEST;
 
 // What the comparison of two words gives: how many letters agree from the start, and of the rest its side, 0 for left and 1 for right, and its length.
-#[derive(Drop)]
+#[derive(Clone, Copy)]
 pub struct Mismatch {
     pub agreeing: usize,
     pub side: usize,

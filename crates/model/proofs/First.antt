@@ -6,7 +6,7 @@ use mathlib.Core.List.{List, [], ◌∷◌, map}
 use mathlib.Core.Logic.{◌⊎◌, inl, inr}
 use Prim.Native.Nat.{ℕ}
 use lib.ListN.{length}
-use Rattle.model.specs.Lists.{starts_with, each, from, all, keep, All}
+use Rattle.model.specs.Lists.{pick, starts_with, each, from, all, keep, All}
 use Rattle.model.specs.Sheet.{Sheet, row, times, sides, an_equation, a_constraint, walk, width, signed, opening, read, sheet_in}
 use Rattle.model.specs.Word.{Substitution, spell, Solves, weight, same_letter, same_word, equation_holds, constraint_holds, keeps, solves}
 use Rattle.model.specs.Solvable.{all_texts, substitutions, every_legal}
@@ -78,10 +78,10 @@ earliest-none k g (h ∷ hs) n ns =
     by_test (earlier h g)
     (λ e.
     let rest = earliest-none k h hs ns.0 ns.1 in
-    rw e (later _ h g (ns.0 ∙ sym n) (λ q. earlier_irreflexive g (earlier_transitive g h g q (lex_out (ranks h) (ranks g) e))) rest.0, rest))
+    subst (λ b. All (NotBefore (earliest (pick b h g) hs)) (g ∷ h ∷ hs)) (sym e) (later _ h g (ns.0 ∙ sym n) (λ q. earlier_irreflexive g (earlier_transitive g h g q (lex_out (ranks h) (ranks g) e))) rest.0, rest))
     (λ e.
     let rest = earliest-none k g hs n ns.1 in
-    rw e (rest.0, (later _ g h (n ∙ sym ns.0) (λ q. never (sym e ∙ lex_in (ranks h) (ranks g) q)) rest.0, rest.1)))
+    subst (λ b. All (NotBefore (earliest (pick b h g) hs)) (g ∷ h ∷ hs)) (sym e) (rest.0, (later _ g h (n ∙ sym ns.0) (λ q. never (sym e ∙ lex_in (ranks h) (ranks g) q)) rest.0, rest.1)))
 
 module _ (s : Sheet) where
   abbrev solutions : List Substitution

@@ -1,4 +1,5 @@
 // The numbers of a solver's reply: one piece of a v line. Knows nothing of lines.
+#![tactic(auto)]
 ghost use Rattle.std.specs.Prelude.{◌≡◌};
 ghost use Rattle.model.specs.Lists.{pick};
 ghost use Rattle.formula.specs.Dimacs.{value_of};
@@ -6,7 +7,7 @@ ghost use Rattle.calls.specs.Reply.{magnitude};
 ghost use Rattle.numerals.specs.Said.{Said};
 
 // A piece of a v line as a number: 0 or more, or with a minus; or no number.
-#[derive(Drop)]
+#[derive(Clone, Copy)]
 pub enum Piece {
     Plus(usize),
     Minus(usize),

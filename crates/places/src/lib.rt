@@ -1,4 +1,5 @@
 // What marks say of the fields' places: which values are true at each, and the substitution that they spell.
+#![tactic(auto)]
 ghost use Rattle.std.specs.Prelude.{◌≡◌, map, ◌<◌, ◌≤◌, eqb, length};
 ghost use Rattle.model.specs.Lists.{all, up_to};
 ghost use Rattle.model.specs.Sheet.{sheet_of};
@@ -14,14 +15,14 @@ ghost use Rattle.places.specs.Test.{field_passes, all_pass};
 use fields::{EMPTY, FIELDS, Field, PAST, PLACES, Substitution};
 
 // What is asked of every field: that each place has just one true value (document 01's 37), that no letter stands after a blank (38).
-#[derive(Drop)]
+#[derive(Clone, Copy)]
 pub enum Test {
     Single,
     BlanksLast,
 }
 
 // How many values are true at a place, and the least of them; where none is, blank.
-#[derive(Drop)]
+#[derive(Clone, Copy)]
 struct Truths {
     count: usize,
     least: usize,

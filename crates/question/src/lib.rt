@@ -1,6 +1,7 @@
 // A question to the search, and an answer where there is one: lengths in ranges, and some of a sheet's equations and constraints. Cells and rows are made
 // here once; `lengths` then goes through boxes of lengths, in which the equations are walked (document 000's automaton), and so are the equations
 // reversed.
+#![tactic(auto)]
 ghost use Rattle.model.specs.Sheet.{sheet_of};
 ghost use Rattle.model.specs.Range.{Admitted};
 ghost use Rattle.question.specs.Ask.{Asking, Finds};
@@ -11,7 +12,7 @@ use sides::{CELLS, WIDTHS};
 use unification::Found;
 
 // What is asked: lengths from `lo` to `hi`, and the equations and constraints that are marked.
-#[derive(Drop)]
+#[derive(Clone, Copy)]
 pub struct Ask {
     pub lo: Lengths,
     pub hi: Lengths,

@@ -1,4 +1,5 @@
 // A row of bytes of one role, read from an offset on: to its end, or to the first fault. Knows nothing of what rows a sheet has.
+#![tactic(auto)]
 ghost use Rattle.std.specs.Prelude.{◌≡◌, ◌+◌, ◌≤◌, length, drop};
 ghost use Rattle.model.specs.Sheet.{letter_byte, template_byte, coefficient_byte, passes, refusal_of, rest};
 ghost use Rattle.model.specs.Sheet as model;
@@ -7,7 +8,7 @@ ghost use Rattle.rows.specs.Progress.{number_of, left, role_of, HasLanded};
 use scan::{FIRST_FIELD, signed_byte};
 
 // A fault that the walk can meet.
-#[derive(Drop)]
+#[derive(Clone, Copy)]
 pub enum Fault {
     Missing,
     Letter,
@@ -19,7 +20,7 @@ pub enum Fault {
 }
 
 // What a byte of the walk stands for. A symbol's role has the letter count and the field count.
-#[derive(Drop)]
+#[derive(Clone, Copy)]
 pub enum Role {
     Letter,
     Limit,
@@ -30,7 +31,7 @@ pub enum Role {
 }
 
 // How far the walk came: to this offset, or no further than a fault.
-#[derive(Drop)]
+#[derive(Clone, Copy)]
 pub enum Progress {
     At(usize),
     Stopped(Fault),

@@ -17,8 +17,8 @@ standing b k zero = []
 standing b k (suc n) = interval_at b k ∷ standing b (k + 4) n
 
 -- the intervals of a template whose count is at offset k, and the offset past them
-abbrev pub field_own : List ℕ → ℕ → List Interval
-field_own b k = standing b (k + 1) (byte b k)
+abbrev pub own_at : List ℕ → ℕ → List Interval
+own_at b k = standing b (k + 1) (byte b k)
 
 abbrev pub next_at : List ℕ → ℕ → ℕ
 next_at b k = k + 1 + 4 * byte b k
@@ -31,7 +31,7 @@ start_at b k (suc i) = start_at b (next_at b k) i
 -- what n templates from offset k on say
 unfoldable pub laid : List ℕ → ℕ → ℕ → Schedule
 laid b k zero = []
-laid b k (suc n) = field_own b k ∷ laid b (next_at b k) n
+laid b k (suc n) = own_at b k ∷ laid b (next_at b k) n
 
 -- whether they are all the bytes from there on, each count at most 4
 unfoldable pub fits : List ℕ → ℕ → ℕ → Bool

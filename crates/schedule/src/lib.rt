@@ -1,1 +1,3 @@
 // The hours of a book's templates: definitions (specs/) and theorems (proofs/) alone, no code.
+
+#![tactic(auto)]

@@ -1,5 +1,6 @@
 // The walk through a sheet's bytes after its header: to its end, or to the first fault. Knows nothing of the header's rules, nor
 // of what a sheet means.
+#![tactic(auto)]
 ghost use Rattle.std.specs.Prelude.{◌≡◌, map, ◌+◌, ◌<◌, ◌≤◌, leb, length, take, drop};
 ghost use Rattle.model.specs.Sheet.{symbol_of, cells_of, width, rest, times};
 ghost use Rattle.model.specs.Sheet as model;
@@ -10,7 +11,7 @@ use rows::{Fault, Progress, Role, row};
 use scan::{FIRST_FIELD, HEADER, WIDEST, stretch, wide};
 
 // What the walk repeats.
-#[derive(Drop)]
+#[derive(Clone, Copy)]
 pub enum Section {
     Equations,
     Constraints,

@@ -1,4 +1,5 @@
 // The shape of an accepted sheet: its counts and limits as wide numbers, and its templates as cells, a byte for each.
+#![tactic(auto)]
 ghost use Rattle.std.specs.Prelude.{◌≡◌, map, ◌+◌, ◌<◌, ◌≤◌, length};
 ghost use Rattle.model.specs.Lists.{All, up_to, Puts};
 ghost use Rattle.model.specs.Sheet.{symbol_of, sheet_of, template};
@@ -23,7 +24,7 @@ pub const FIRST_PLACE: u8 = 8;
 pub const PLACES: u8 = 8;
 
 // The three sections of the variables and of the clauses.
-#[derive(Drop)]
+#[derive(Clone, Copy)]
 pub enum Section {
     Fields,
     Equations,
@@ -120,7 +121,7 @@ fn put_cells(buf: &mut [u8], sheet: &[u8], symbols: &[u8]) -> usize
 }
 
 // One side of an equation: its cells, and how many it has.
-#[derive(Drop)]
+#[derive(Clone, Copy)]
 struct Expansion {
     cells: [u8; ROOM],
     width: usize,

@@ -1,4 +1,5 @@
 // Reads a sheet: its four counts, or the first refusal in document 01's order. It knows nothing of what a sheet means.
+#![tactic(auto)]
 ghost use Rattle.std.specs.Prelude.{◌≡◌, ◌≤◌, length, drop};
 ghost use Rattle.calls.specs.Calls.{reading_of, reading};
 ghost use Rattle.model.specs.Sheet.{ended, opening};
@@ -16,7 +17,7 @@ use scan::{
 use sections::walked;
 
 // What reading refuses a sheet for, by document 01's numbers from 1 to 15.
-#[derive(Drop)]
+#[derive(Clone, Copy)]
 pub enum Refusal {
     Short,
     Mark,
@@ -36,7 +37,7 @@ pub enum Refusal {
 }
 
 // The answer of reading.
-#[derive(Drop)]
+#[derive(Clone, Copy)]
 pub enum Reading {
     Accepted(Counts),
     Refused(Refusal),

@@ -1,5 +1,6 @@
 // The cells of a sheet's equations, expanded from the templates once for all walks: one after the other, with their widths. The same of the equations with
 // each template reversed.
+#![tactic(auto)]
 ghost use Rattle.std.specs.Prelude.{◌≡◌, map, reverse, ◌+◌, ◌<◌, ◌≤◌, length};
 ghost use Rattle.model.specs.Lists.{All, Puts};
 ghost use Rattle.model.specs.Sheet.{sheet_of, equation, template};
@@ -19,7 +20,7 @@ pub const CELLS: usize = 192;
 pub const WIDTHS: usize = 8;
 
 // How many cells and how many widths there are.
-#[derive(Drop)]
+#[derive(Clone, Copy)]
 pub struct Sizes {
     pub cells: usize,
     pub widths: usize,

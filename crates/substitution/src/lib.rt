@@ -1,4 +1,5 @@
 // What a sheet asks of a substitution: whether it solves the sheet, and what a template spells under it.
+#![tactic(auto)]
 ghost use Rattle.std.specs.Prelude.{◌≡◌, ◌<◌, length};
 ghost use Rattle.model.specs.Sheet.{Accepted, sheet_of};
 ghost use Rattle.model.specs.Filling.{filling};
@@ -13,7 +14,7 @@ use mismatch::Mismatch;
 use scan::{WIDEST, wide};
 
 // What checking and spelling refuse, by document 01's numbers: what reading refuses, 20 to 23 of a filling, and 24 to 26.
-#[derive(Drop)]
+#[derive(Clone, Copy)]
 pub enum Refusal {
     Sheet(sheet::Refusal),
     Filling(fields::Fault),
@@ -24,7 +25,7 @@ pub enum Refusal {
 
 // The answer of checking (document 01: clash, or no clash): it solves the sheet; or the first equation whose two words differ, with what is left over; or the
 // first constraint that does not hold.
-#[derive(Drop)]
+#[derive(Clone, Copy)]
 pub enum Checking {
     Solves,
     Differs(usize, Mismatch),
@@ -33,7 +34,7 @@ pub enum Checking {
 }
 
 // The answer of spelling.
-#[derive(Drop)]
+#[derive(Clone, Copy)]
 pub enum Spelling {
     Length(usize),
     Refused(Refusal),

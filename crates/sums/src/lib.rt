@@ -1,6 +1,7 @@
 // The lines of a constraint's clauses in the clause file, written into a lent buffer step by step. The codes of a step's first sums and of a field's
 // first blank are worked out once, and those of its lines follow from them by adding. A function that writes returns the offset past what it has
 // written.
+#![tactic(auto)]
 ghost use Rattle.std.specs.Prelude.{◌≡◌, ℕ, suc, ◌+◌, ◌-◌, ◌*◌, ◌<◌, ◌≤◌, ltb, pos, nat_abs, ◌+ℤ◌, ◌-ℤ◌, ◌*ℤ◌, length};
 ghost use Rattle.model.specs.Lists.{pick, each, up_to, Puts};
 ghost use Rattle.model.specs.Sheet.{sheet_of};

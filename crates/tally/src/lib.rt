@@ -1,5 +1,6 @@
 // What the text of a solver's reply comes to: its lines, its numbers, and a mark for each number that it lists. Nothing here knows of a sheet; the
 // text's numbers are noted in the lent marks, one for each number from 0 on.
+#![tactic(auto)]
 ghost use Rattle.std.specs.Prelude.{◌≡◌, ◌||◌, ◌<◌, ◌≤◌, length};
 ghost use Rattle.tally.specs.Tally.{mark_of, noted, marked, ReadValues, ReadLine, ReadLines};
 
@@ -20,7 +21,7 @@ const MINUS: u8 = 2;
 
 // What was met so far: an s line, a second one, a v line before any s line, a number after a 0, a number that has no mark, a number met
 // before.
-#[derive(Drop)]
+#[derive(Clone, Copy)]
 pub struct Tally {
     pub status: bool,
     pub again: bool,
@@ -31,7 +32,7 @@ pub struct Tally {
 }
 
 // What lines come to, or that one of them has no known form.
-#[derive(Drop)]
+#[derive(Clone, Copy)]
 pub enum Lines {
     Known(Tally),
     Unknown,

@@ -3,6 +3,7 @@
 // A place holds a letter (below 8); a name (8 + 8 × f + c), which stands for every place that must hold the same letter while that letter is
 // not known; 254, where it is open whether there is such a place (see `walk`); or 255, past its field's length. A cell is a letter, or the name of
 // a place, as in `shape`.
+#![tactic(auto)]
 ghost use Rattle.std.specs.Prelude.{◌≡◌, ◌<◌, length};
 ghost use Rattle.unification.specs.Names.{settle, renames, map_field, app, value_of, unify_of};
 
@@ -10,14 +11,14 @@ use fields::{FIELDS, Field, PAST, PLACES, Substitution};
 use shape::FIRST_PLACE;
 
 // An answer of the search: a substitution, where ok.
-#[derive(Drop)]
+#[derive(Clone, Copy)]
 pub struct Found {
     pub ok: bool,
     pub substitution: Substitution,
 }
 
 // What is done to every place: one name becomes another name or a letter, or every name that is left becomes the lowest letter.
-#[derive(Drop)]
+#[derive(Clone, Copy)]
 pub enum Renaming {
     Replace(u8, u8),
     Settle,

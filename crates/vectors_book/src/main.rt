@@ -2,6 +2,7 @@
 // of pairs or document 02's number of the refusal, and the lent buffer as it then is, its bytes in hexadecimal. A line of the file stdin is a vector's name, a colon,
 // the book, a semicolon, with hours their file and another semicolon, and the length of the lent buffer, one byte, all in hexadecimal. A line with no colon is a
 // heading and is printed as it is. The file stdout has document 02's answers.
+#![tactic(auto)]
 use book_list::Compared;
 use hex::{decode, find, signed};
 use libc::{STDIN_FILENO, STDOUT_FILENO};

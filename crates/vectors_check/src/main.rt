@@ -6,6 +6,7 @@
 // spelling there follow a semicolon, the pair and the side, eight bytes each, and the length of the
 // lent buffer, one byte. A line with no colon is a heading and is printed as it is. The file stdout
 // has the answers of documents 01 and 02.
+#![tactic(auto)]
 ghost use Rattle.std.specs.Prelude.{◌≡◌, [], ◌∷◌, ◌+◌, ◌≤◌};
 ghost use Rattle.calls.specs.Calls.{finished, checking};
 

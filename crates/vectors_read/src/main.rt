@@ -2,6 +2,7 @@
 // and the four counts or document 01's number of the refusal. A line of the file stdin is a sheet's
 // name, a colon and its bytes in hexadecimal, with spaces between its parts; or it has no colon, is
 // a heading and is printed as it is. The file stdout has document 01's answers.
+#![tactic(auto)]
 use hex::{decode, find};
 use libc::{STDIN_FILENO, STDOUT_FILENO};
 use vectors::{next, show_refused};

@@ -4,6 +4,7 @@
 // length of the lent buffer, one byte, both in hexadecimal, a second semicolon, and all that follows
 // it is the text, written as `unescape` reads it. A line with no colon is a heading and is printed as
 // it is. The file stdout has document 01's answers.
+#![tactic(auto)]
 ghost use Rattle.std.specs.Prelude.{◌≡◌, ◌≤◌, length, take};
 
 use decoding::Reply;

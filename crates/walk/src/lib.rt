@@ -3,6 +3,7 @@
 //
 // A box has all lengths from lo to hi. A place (f, c) holds a letter or a name where every length of the box reaches it (c below lo); 254 where some
 // do (it is open whether there is a place); 255 where none does (c from hi on).
+#![tactic(auto)]
 ghost use Rattle.std.specs.Prelude.{◌≡◌, ◌<◌, ◌≤◌, length, get_or};
 ghost use Rattle.walk.specs.Walk.{Cells, Skipped, may_end, alike_of, waits_of, walk_on};
 ghost use Rattle.walk.specs.Renew.{renew_place, renew_field, renew_of};
@@ -14,7 +15,7 @@ use shape::{FIRST_PLACE, PLACES};
 pub const OPEN: u8 = 254;
 
 // How far a walk came: the cells passed on either side, and the substitution there. Where it is not ok, no lengths of the box make the sides the same.
-#[derive(Drop)]
+#[derive(Clone, Copy)]
 pub struct Walked {
     pub ok: bool,
     pub left: usize,
