@@ -11,7 +11,7 @@ use scan::wide;
 use schedule_parts::{FIRST, minute, next};
 
 // What reading refuses an hours file for: 43, 44 and 45.
-#[derive(Drop)]
+#[derive(Clone, Copy)]
 pub enum Refusal {
     File,
     Bounds,

@@ -1,0 +1,24 @@
+-- `balance::surplus` meets its contract. Assumes nothing.
+use mathlib.Core.Path.{ap, ◌∙◌}
+use native.Mathlib.Omega.{arith}
+use borrow.Author.Rules.{rules}
+use Rattle.model.specs.Sheet.{sheet_of}
+use Rattle.balance.specs.Balance.{count}
+use Rattle.balance.proofs.Joined.{template-few}
+use Rattle.balance.proofs.occurrences.Reads as occurrences-reads
+use Rattle.parts.proofs.template.Reads as template_reads
+use Rattle.balance.proofs.surplus.Goals as goal
+
+pub occurrences-left-requires : goal.occurrences-left-requires
+occurrences-left-requires c =
+    rw c.template.ensures (template-few (sheet_of c.args.sheet.now) c.requires.0.1 c.args.p c.requires.1 0)
+
+pub occurrences-right-requires : goal.occurrences-right-requires
+occurrences-right-requires c =
+    rw c.template-2.ensures (template-few (sheet_of c.args.sheet.now) c.requires.0.1 c.args.p c.requires.1 1)
+
+pub returns : goal.returns
+returns c =
+    let left = c.occurrences-left.ensures.0 ∙ ap (count _) c.template.ensures in
+    let right = c.occurrences-right.ensures.0 ∙ ap (count _) c.template-2.ensures in
+    omega (arith, c.occurrences-left.ensures.1, c.occurrences-right.ensures.1)

@@ -1,0 +1,17 @@
+use mathlib.Core.Path.{◌≡◌, refl, sym, ap, ◌∙◌}
+use Prim.Native.Nat.{◌-◌, ◌≤◌}
+use native.Mathlib.Omega.{arith}
+use borrow.Author.Rules.{rules}
+use lib.ListN.{length, drop}
+use Rattle.model.specs.Sheet.{times, rest}
+use Rattle.rows.specs.Progress.{left}
+use Rattle.sections.specs.Sections.{entry_of}
+use Rattle.model.proofs.Rests.{times_starts, times_goes, times_stops, times_done}
+use Rattle.sections.proofs.Walks.{within-told}
+use Rattle.sections.proofs.entries.Given as goal
+
+abbrev pub invariant-loop-i : goal.invariant-loop-i
+invariant-loop-i l = (l.i ≤ l.n) × (l.at ≤ length l.sheet) × (rest (times l.n (entry_of l.sheet l.letters l.fields l.section) (drop l.start l.sheet)) ≡ rest (times (l.n - l.i) (entry_of l.sheet l.letters l.fields l.section) (drop l.at l.sheet)))
+
+abbrev pub decreases-loop-i : goal.decreases-loop-i
+decreases-loop-i l = l.n - l.i

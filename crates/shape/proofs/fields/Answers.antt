@@ -1,0 +1,11 @@
+-- `shape::fields` meets its contract. Assumes nothing.
+use mathlib.Core.Path.{ap, ◌∙◌}
+use borrow.Author.Rules.{rules}
+use Rattle.model.specs.Sheet.{Counts}
+use Rattle.shape.proofs.fields.Goals as goal
+
+pub four_counts-requires : goal.four_counts-requires
+four_counts-requires c = c.requires.0
+
+pub returns : goal.returns
+returns c = c.wide.ensures.0 ∙ ap (λ (n : Counts). n.field_count) c.four_counts.ensures

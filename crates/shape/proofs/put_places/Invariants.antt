@@ -1,0 +1,18 @@
+use mathlib.Core.Path.{◌≡◌, subst}
+use mathlib.Core.List.{[], ◌∷◌, ◌++◌, map}
+use Prim.Native.Nat.{◌+◌, ◌-◌, ◌*◌, ◌≤◌}
+use native.Mathlib.Omega.{arith}
+use lib.ListN.{set, length-set}
+use borrow.Author.Rules.{rules}
+use Rattle.model.specs.Lists.{up_to, from}
+use Rattle.model.specs.Cells.{place}
+use Rattle.model.proofs.Seams.{Written, nothing, more, put_one}
+use Rattle.shape.specs.Bytes.{cell_byte}
+use Rattle.shape.proofs.Laws.{places-more, places-length}
+use Rattle.shape.proofs.put_places.Given as goal
+
+abbrev pub invariant-loop-c : goal.invariant-loop-c
+invariant-loop-c l = (l.c ≤ l.n) × Written l.initial.buf l.at (map cell_byte (map (place l.f) (up_to l.c))) l.buf (l.at + l.c)
+
+abbrev pub decreases-loop-c : goal.decreases-loop-c
+decreases-loop-c l = l.n - l.c
