@@ -9,6 +9,7 @@ use Rattle.model.specs.Sheet.{rest}
 use Rattle.model.specs.Filling.{places, a_text}
 use Rattle.model.proofs.Fillings.{text-long, text_starts, letter_stops, letter_goes, past_stops, past_goes, places_done}
 use Rattle.fields.proofs.check_field.Goals as goal
+use Rattle.fields.proofs.check_field.Goals.{then-c-len+else-x-letters, else-c-len+else-x}
 
 pub returns-then-len-wide : goal.returns-then-len-wide
 returns-then-len-wide c =
@@ -51,8 +52,10 @@ loop-c-preserved c =
     let k = at-loop.c in
     let more = at-loop-test.true in
     let there : k + 1 < length b = omega arith in
-    let turn = ⊎_elim (λ w. letter_goes a.letters n 8 k b more there w.0.taken w.1.left) (λ w. past_goes a.letters n 8 k b more there w.0.left w.1.left) c.if-c-len.branch-raw in
-    (omega arith, at-loop.invariant.1 ∙ turn)
+    elim c.if-c-len.branch [
+      then-c-len+else-x-letters w ↦ (omega arith, at-loop.invariant.1 ∙ letter_goes a.letters n 8 k b more there w.if-c-len.true w.if-x-letters.false)
+    | else-c-len+else-x w ↦ (omega arith, at-loop.invariant.1 ∙ past_goes a.letters n 8 k b more there w.if-c-len.false w.if-x.false)
+    ]
 
 pub returns : goal.returns
 returns c =
