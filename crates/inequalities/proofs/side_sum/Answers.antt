@@ -1,6 +1,6 @@
 -- `inequalities::side_sum` meets its contract. The loop's invariant: the number that is added, and the terms of the first f fields. Assumes nothing.
 use mathlib.Core.Path.{◌≡◌, ap, ap₂, ◌∙◌}
-use Prim.Native.Nat.{◌+◌, ◌-◌, ◌*◌, ◌≤◌}
+use Prim.Native.Nat.{◌+◌}
 use native.Mathlib.Omega.{arith}
 use Rattle.inequalities.proofs.Steps.{side_to, side_begins, side_next, side_done}
 use Rattle.inequalities.proofs.side_sum.Goals as goal

@@ -1,7 +1,6 @@
-use mathlib.Core.Path.{◌≡◌, ap, ap₂, ◌∙◌}
+use mathlib.Core.Path.{◌≡◌}
 use Prim.Native.Nat.{◌+◌, ◌-◌, ◌*◌, ◌≤◌}
-use native.Mathlib.Omega.{arith}
-use Rattle.inequalities.proofs.Steps.{side_to, side_begins, side_next, side_done}
+use Rattle.inequalities.proofs.Steps.{side_to}
 use Rattle.inequalities.proofs.side_sum.Given as goal
 
 abbrev pub invariant-loop-f : goal.invariant-loop-f

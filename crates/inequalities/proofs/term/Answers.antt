@@ -4,7 +4,6 @@ use Prim.Native.Nat.{◌*◌, ◌≤◌}
 use native.Mathlib.Nat.{mul-le-mul}
 use native.Mathlib.Omega.{arith}
 use lib.ListN.{get_or}
-use borrow.Author.Rules.{rules}
 use Rattle.inequalities.proofs.term.Goals as goal
 use Rattle.inequalities.proofs.term.Lts as lts
 use Rattle.inequalities.proofs.term.Reads as reads

@@ -54,7 +54,7 @@ pub returns : goal.returns
 unfolding constraint_row from
 returns c =
     let read = c.most-most in
-    let limit = back read.result (record { sfits = read.type-inv }) ∙ read.ensures in
+    let limit = back read.result (record { sfits = read.type_inv }) ∙ read.ensures in
     rw (
       c.first_factor.ensures,
       c.first_factor-2.ensures,

@@ -13,4 +13,4 @@ positive-requires c = tt
 pub returns : goal.returns
 returns c =
     let read = c.coefficient in
-    c.positive.ensures ∙ ap positive (back read.result (record { sfits = read.type-inv }) ∙ read.ensures)
+    c.positive.ensures ∙ ap positive (back read.result (record { sfits = read.type_inv }) ∙ read.ensures)

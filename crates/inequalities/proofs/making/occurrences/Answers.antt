@@ -1,15 +1,10 @@
 -- `inequalities::making::occurrences` meets its contract. The loop's invariant: what was counted, and what is still to come, make the whole. Assumes nothing.
-use mathlib.Core.Path.{◌≡◌, sym, ◌∙◌}
-use mathlib.Core.List.{map}
-use mathlib.Core.Logic.{⊎_elim}
-use Prim.Native.Nat.{◌+◌, ◌-◌, ◌≤◌}
+use mathlib.Core.Path.{sym, ◌∙◌}
 use native.Mathlib.Omega.{arith}
-use lib.ListN.{length, drop}
 use borrow.Author.Tests.{eq-eqb, ne_eqb}
-use Rattle.model.specs.Sheet.{symbol_of}
-use Rattle.inequalities.specs.Rows.{occurrences}
 use Rattle.inequalities.proofs.Steps.{occurrences_turn, occurrences_done}
 use Rattle.inequalities.proofs.making.occurrences.Goals as goal
+use Rattle.inequalities.proofs.making.occurrences.Goals.{then-slot-k, else-slot-k}
 
 pub slot-requires : goal.slot-requires
 slot-requires c = tt
@@ -23,10 +18,10 @@ loop-i-preserved c =
     let a = c.args in
     let found = c.slot.ensures in
     let turn = occurrences_turn a.template.now a.k l.i (omega arith) in
-    ⊎_elim
-    (λ w. let here = eq-eqb _ _ (sym found ∙ w.0.taken) in omega (arith, rw here at turn))
-    (λ w. let here = ne_eqb _ _ (λ e. w.0.left (found ∙ e)) in omega (arith, rw here at turn))
-    c.if-slot-k.branch-raw
+    elim c.if-slot-k.branch [
+      | then-slot-k w ↦ let here = eq-eqb _ _ (sym found ∙ w.if-slot-k.true) in omega (arith, rw here at turn)
+      | else-slot-k w ↦ let here = ne_eqb _ _ (λ e. w.if-slot-k.false (found ∙ e)) in omega (arith, rw here at turn)
+    ]
 
 pub returns : goal.returns
 returns c =

@@ -13,4 +13,4 @@ negative-requires c = tt
 pub returns : goal.returns
 returns c =
     let read = c.coefficient in
-    c.negative.ensures ∙ ap negative (back read.result (record { sfits = read.type-inv }) ∙ read.ensures)
+    c.negative.ensures ∙ ap negative (back read.result (record { sfits = read.type_inv }) ∙ read.ensures)
