@@ -1,5 +1,5 @@
 // Text that gives bytes in hexadecimal, as the programs take their vectors: where a part of it ends
-// and the next begins, which bytes it gives, and such a byte as a length.
+// and the next begins, and which bytes it gives.
 #![tactic(auto)]
 ghost use Rattle.std.specs.Prelude.{◌≡◌, ◌≤◌, length, take};
 
@@ -59,9 +59,4 @@ fn digit(x: u8) -> u8 {
         b'A'..=b'F' => x - b'A' + 10,
         _ => NO_DIGIT,
     }
-}
-
-// A byte as what `io::count` takes.
-pub fn signed(x: u8) -> isize {
-    x as isize
 }
