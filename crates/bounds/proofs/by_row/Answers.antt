@@ -3,9 +3,6 @@ use mathlib.Core.Path.{sym}
 use native.Mathlib.Omega.{arith}
 use Rattle.model.proofs.Lists.{never}
 use Rattle.bounds.proofs.Narrowing.{row_hopeless, row_by_six}
-use borrow.Author.Rules.{rules}
-use Rattle.bounds.proofs.field_range.Reads as field-range-reads
-use Rattle.inequalities.proofs.side_sum.Reads as side-sum-reads
 use Rattle.bounds.proofs.by_row.Goals as goal
 
 pub returns-then-most-least : goal.returns-then-most-least

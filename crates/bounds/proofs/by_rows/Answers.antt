@@ -1,9 +1,6 @@
 -- `bounds::by_rows` meets its contract. The loop's invariant: the ranges have passed the first i rows. Assumes nothing.
 use mathlib.Core.Path.{◌≡◌, refl, sym, subst, ◌∙◌}
-use mathlib.Core.Bool.{true}
-use Prim.Native.Nat.{◌-◌, ◌≤◌}
 use native.Mathlib.Omega.{arith}
-use borrow.Author.Rules.{rules}
 use borrow.Author.Tests.{not-true, not-false}
 use Rattle.model.proofs.Lists.{never}
 use Rattle.bounds.specs.Bounds.{RowsPassed}

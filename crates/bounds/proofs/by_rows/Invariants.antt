@@ -1,12 +1,7 @@
-use mathlib.Core.Path.{◌≡◌, refl, sym, subst, ◌∙◌}
+use mathlib.Core.Path.{◌≡◌}
 use mathlib.Core.Bool.{true}
 use Prim.Native.Nat.{◌-◌, ◌≤◌}
-use native.Mathlib.Omega.{arith}
-use borrow.Author.Rules.{rules}
-use borrow.Author.Tests.{not-true, not-false}
-use Rattle.model.proofs.Lists.{never}
 use Rattle.bounds.specs.Bounds.{RowsPassed}
-use Rattle.bounds.proofs.Narrowing.{passed_none, passed_next, hopeless_nowhere}
 use Rattle.bounds.proofs.by_rows.Given as goal
 
 abbrev pub invariant-loop-i : goal.invariant-loop-i

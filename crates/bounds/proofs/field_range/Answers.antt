@@ -1,8 +1,5 @@
 -- `bounds::field_range` meets its contract. Assumes nothing.
-use Prim.Native.Nat.{◌-◌}
 use Rattle.bounds.proofs.Narrowing.{field_narrowed, field-settled}
-use borrow.Author.Rules.{rules}
-use Rattle.bounds.proofs.reach.Reads as reach-reads
 use Rattle.bounds.proofs.field_range.Goals as goal
 
 pub returns-then-hi-lo : goal.returns-then-hi-lo

@@ -1,6 +1,5 @@
 -- `bounds::reach` meets its contract. The loop's invariant: what is above n is too much. Assumes nothing.
 use mathlib.Core.Path.{sym}
-use Prim.Native.Nat.{ℕ, ◌-◌, ◌*◌, ◌<◌, ◌≤◌}
 use native.Mathlib.Omega.{arith}
 use lib.Arith.{lt_of_le-ne}
 use lib.Dec.{eqb}
@@ -8,7 +7,6 @@ use lib.ListN.{get_or}
 use borrow.Author.Tests.{eqb-true, eqb-false}
 use Rattle.model.proofs.Lists.{by_test}
 use Rattle.bounds.proofs.Narrowing.{not_none}
-use Rattle.inequalities.proofs.term.Reads as term-reads
 use Rattle.bounds.proofs.reach.Goals as goal
 
 pub loop-n-init : goal.loop-n-init
@@ -32,8 +30,7 @@ loop-n-smaller c =
 
 pub loop-n-preserved : goal.loop-n-preserved
 loop-n-preserved c =
-    let l = c.loop-n in
-    (
+    let l = c.loop-n in (
       omega arith,
       (λ m low high. by_test (eqb m l.n)
           (λ e. let same = eqb-true m l.n e in rw same (omega arith))

@@ -1,13 +1,5 @@
-use mathlib.Core.Path.{sym}
-use Prim.Native.Nat.{ℕ, ◌-◌, ◌*◌, ◌<◌, ◌≤◌}
-use native.Mathlib.Omega.{arith}
-use lib.Arith.{lt_of_le-ne}
-use lib.Dec.{eqb}
+use Prim.Native.Nat.{ℕ, ◌*◌, ◌<◌, ◌≤◌}
 use lib.ListN.{get_or}
-use borrow.Author.Tests.{eqb-true, eqb-false}
-use Rattle.model.proofs.Lists.{by_test}
-use Rattle.bounds.proofs.Narrowing.{not_none}
-use Rattle.inequalities.proofs.term.Reads as term-reads
 use Rattle.bounds.proofs.reach.Given as goal
 
 abbrev pub invariant-loop-n : goal.invariant-loop-n

@@ -2,7 +2,6 @@
 use mathlib.Core.Path.{sym, ◌∙◌}
 use borrow.Author.Tests.{not-true, not-false}
 use Rattle.model.proofs.Lists.{never}
-use Rattle.bounds.proofs.by_rows.Reads as by-rows-reads
 use Rattle.bounds.proofs.round.Goals as goal
 
 pub by_rows-first-requires : goal.by_rows-first-requires

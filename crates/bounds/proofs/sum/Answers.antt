@@ -1,9 +1,7 @@
 -- `bounds::sum` meets its contract. Assumes nothing.
 use native.Mathlib.Omega.{arith}
-use borrow.Author.Rules.{rules}
 use Rattle.model.specs.Lists.{total}
 use Rattle.bounds.specs.Bounds.{sum_of}
-use Rattle.bounds.proofs.broad.Reads as broad-reads
 use Rattle.bounds.proofs.sum.Goals as goal
 
 pub returns : goal.returns

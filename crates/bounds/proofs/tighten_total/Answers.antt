@@ -1,6 +1,5 @@
 -- `bounds::tighten_total` meets its contract. Assumes nothing.
 use mathlib.Core.Path.{subst}
-use borrow.Author.Rules.{rules}
 use Rattle.bounds.specs.Bounds.{ClosedBoth, Tightened}
 use Rattle.bounds.proofs.tighten_total.Goals as goal
 
