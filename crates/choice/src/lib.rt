@@ -1,6 +1,7 @@
 // Which field parts a box of lengths. It is one whose length is open; that is all that is promised. Which one decides how fast the search is: best is a field
 // at which the equation that failed last stands, or else one whose open fields are used the fewest times; then one at which many walks stand.
 #![tactic(auto)]
+
 ghost use Rattle.std.specs.Prelude.{ℕ, ◌+◌, ◌<◌, ◌≤◌, get_or};
 ghost use Rattle.choice.specs.Chosen.{Chosen};
 

@@ -1,6 +1,7 @@
 // Lengths as linear inequalities: what an equation or a constraint asks of the lengths of the fields' texts, as rows of numbers without
 // signs. It knows nothing of what the texts hold.
 #![tactic(auto)]
+
 mod making;
 
 ghost use Rattle.std.specs.Prelude.{◌≡◌, ◌+◌, ◌*◌, ◌<◌, ◌≤◌, length, get_or, drop};

@@ -4,6 +4,7 @@
 // not known; 254, where it is open whether there is such a place (see `walk`); or 255, past its field's length. A cell is a letter, or the name of
 // a place, as in `shape`.
 #![tactic(auto)]
+
 ghost use Rattle.std.specs.Prelude.{◌≡◌, ◌<◌, length};
 ghost use Rattle.unification.specs.Names.{settle, renames, map_field, app, value_of, unify_of};
 

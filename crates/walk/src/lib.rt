@@ -4,6 +4,7 @@
 // A box has all lengths from lo to hi. A place (f, c) holds a letter or a name where every length of the box reaches it (c below lo); 254 where some
 // do (it is open whether there is a place); 255 where none does (c from hi on).
 #![tactic(auto)]
+
 ghost use Rattle.std.specs.Prelude.{◌≡◌, ◌<◌, ◌≤◌, length, get_or};
 ghost use Rattle.walk.specs.Walk.{Cells, Skipped, may_end, alike_of, waits_of, walk_on};
 ghost use Rattle.walk.specs.Renew.{renew_place, renew_field, renew_of};

@@ -1,0 +1,12 @@
+-- `walk::alike` meets its contract, test by test. Assumes nothing.
+use borrow.Author.Tests.{eq-eqb, ne_eqb}
+use Rattle.walk.proofs.alike.Goals as goal
+
+pub returns-then-x-y : goal.returns-then-x-y
+returns-then-x-y c = simp (eq-eqb _ _ c.if-x-y.true)
+
+pub returns-then-u-eq-OPEN : goal.returns-then-u-eq-OPEN
+returns-then-u-eq-OPEN c = simp (ne_eqb _ _ c.if-x-y.false, eq-eqb _ _ c.if-u-eq-OPEN.true)
+
+pub returns : goal.returns
+returns c = simp (ne_eqb _ _ c.if-x-y.false, ne_eqb _ _ c.if-u-eq-OPEN.false)
