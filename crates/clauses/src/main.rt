@@ -1,5 +1,6 @@
 // Prints the clause file of the sheet on standard input, or only `refused`, a space, document 01's number of the refusal and a line end.
 #![tactic(auto)]
+
 ghost use Rattle.std.specs.Prelude.{◌≤◌, length};
 ghost use Rattle.model.specs.Lists.{Puts};
 ghost use Rattle.formula.specs.Dimacs.{most_file};

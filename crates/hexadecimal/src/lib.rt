@@ -1,6 +1,7 @@
 // Text that gives bytes in hexadecimal, as the programs take their vectors: where a part of it ends
 // and the next begins, and which bytes it gives.
 #![tactic(auto)]
+
 ghost use Rattle.std.specs.Prelude.{◌≡◌, ◌≤◌, length, take};
 
 // What `digit` answers for a byte that is no digit.

@@ -1,6 +1,7 @@
 // Reads a sheet from the file sheet.tpl and a solver's reply from reply.txt, and prints the report of the clash that the reply gives, or only
 // `refused`, a space, document 01's number of the refusal and a line end. A file that cannot be opened counts as empty.
 #![tactic(auto)]
+
 ghost use Rattle.std.specs.Prelude.{◌≤◌, length, take, ◌≡◌};
 ghost use Rattle.model.specs.Lists.{Puts};
 ghost use Rattle.model.specs.Sheet.{sheet_of};

@@ -1,6 +1,7 @@
 // Searches the sheet on standard input and prints the report of the first clash, or `apart`, or only `refused`, a space, document 01's number of the
 // refusal and a line end.
 #![tactic(auto)]
+
 ghost use Rattle.std.specs.Prelude.{◌≤◌, length};
 ghost use Rattle.model.specs.Lists.{Puts};
 ghost use Rattle.calls.specs.Report.{most_report, search_printed};

@@ -1,6 +1,7 @@
 // What the vector programs share. A line of their standard input is a vector's name, a colon and what the vector asks; or it has no colon,
 // is a heading and is printed as it is.
 #![tactic(auto)]
+
 ghost use Rattle.std.specs.Prelude.{◌≡◌, ◌≤◌, IfOk, length, min, take};
 
 use hexadecimal::find;

@@ -3,6 +3,7 @@
 // the book, a semicolon, with hours their file and another semicolon, and the length of the lent buffer, one byte, all in hexadecimal. A line with no colon is a
 // heading and is printed as it is. The file stdout has document 02's answers.
 #![tactic(auto)]
+
 use book_list::Compared;
 use hexadecimal::{decode, find};
 use input::read_full;

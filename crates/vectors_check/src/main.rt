@@ -7,6 +7,7 @@
 // lent buffer, one byte. A line with no colon is a heading and is printed as it is. The file stdout
 // has the answers of documents 01 and 02.
 #![tactic(auto)]
+
 ghost use Rattle.std.specs.Prelude.{◌≡◌, [], ◌∷◌, ◌+◌, ◌≤◌};
 ghost use Rattle.calls.specs.Calls.{finished, checking};
 

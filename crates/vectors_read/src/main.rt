@@ -3,6 +3,7 @@
 // name, a colon and its bytes in hexadecimal, with spaces between its parts; or it has no colon, is
 // a heading and is printed as it is. The file stdout has document 01's answers.
 #![tactic(auto)]
+
 use hexadecimal::{decode, find};
 use input::read_full;
 use std::io;

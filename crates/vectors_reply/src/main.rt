@@ -5,6 +5,7 @@
 // it is the text, written as `unescape` reads it. A line with no colon is a heading and is printed as
 // it is. The file stdout has document 01's answers.
 #![tactic(auto)]
+
 ghost use Rattle.std.specs.Prelude.{◌≡◌, ◌≤◌, length, take};
 
 use decoding::Reply;
