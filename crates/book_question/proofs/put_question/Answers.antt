@@ -4,7 +4,6 @@ use mathlib.Core.List.{List, [], ◌∷◌, map}
 use Prim.Native.Nat.{ℕ, ◌+◌, ◌<◌, ◌≤◌}
 use native.Mathlib.Omega.{arith}
 use lib.ListN.{length, length-append, length-map}
-use borrow.Author.Rules.{rules}
 use Rattle.model.specs.Lists.{All, Puts}
 use Rattle.model.specs.Sheet.{symbol_byte, encode}
 use Rattle.model.proofs.Writing.{Writing, joined, begin, fits, next, ends}
@@ -12,14 +11,16 @@ use Rattle.book.specs.Book.{Book, template, book_of}
 use Rattle.book.specs.Pairs.{question}
 use Rattle.book_question.specs.Bytes.{head_bytes, sides_bytes}
 use Rattle.book_question.proofs.Laws.{t_in, u_in, symbols-small, question_bytes, question-small}
-use Rattle.book_question.proofs.put_question.Statement.{statement}
+use Rattle.book_question.proofs.put_question.Goals as goal
+use Rattle.book_question.proofs.put_question.Lts as lts
+use Rattle.book_question.proofs.put_question.Reads as reads
 use Rattle.book_question.proofs.put_question.Tie as tie
 
 -- what holds of three lists holds of what they are
 swap : (P : List ℕ → List ℕ → List ℕ → Type 0) {a b d x y z : List ℕ} → a ≡ x → b ≡ y → d ≡ z → P x y z → P a b d
 swap P {a} {b} {d} {x} {y} {z} e f g h = subst (λ l. P l b d) (sym e) (subst (λ l. P x l d) (sym f) (subst (P x y) (sym g) h))
 
-module _ (c : tie.Start) where
+module _ (c : lts.Start tie.the-claims reads.Pre reads.Post) where
   abbrev k : Book
   k = book_of c.args.book.now
 
@@ -69,83 +70,36 @@ module _ (c : tie.Start) where
       )
 
 -- the places past the limits and past the head
-abbrev start : tie.After-limits2 → tie.Start
+abbrev start : lts.After-limits2 tie.the-claims reads.Pre reads.Post → lts.Start tie.the-claims reads.Pre reads.Post
 start c = c.before.before.before.before
 
-left_is : (c : tie.After-limits2) → c.before.limits.result.now ≡ (template (k (start c)) (start c).args.i).limits
-left_is c = c.before.limits.ensures
+left_is : (c : lts.After-limits2 tie.the-claims reads.Pre reads.Post) → c.limits-left.result.now ≡ (template (k c.before.before.before.before) c.args.i).limits
+left_is c = c.limits-left.ensures
 
-right_is : (c : tie.After-limits2) → c.limits2.result.now ≡ (template (k (start c)) (start c).args.j).limits
-right_is c = c.limits2.ensures
-
-abbrev limited : tie.After-put-head → tie.After-limits2
-limited c = c.before.before.before
+right_is : (c : lts.After-limits2 tie.the-claims reads.Pre reads.Post) → c.limits-right.result.now ≡ (template (k c.before.before.before.before) c.args.j).limits
+right_is c = c.limits-right.ensures
 
 -- the head is written
-headed : (c : tie.After-put-head) → let s = start (limited c) in Still s (tail s) [] c.put-head.new.0 c.put-head.result
+headed : (c : lts.After-put_head tie.the-claims reads.Pre reads.Post) → let s = start c.before.before.before in Still s (tail s) [] c.put_head-at.new.buf c.put_head-at.result
 headed c =
-    let s = start (limited c) in
-    let e = swap (λ l m n. head_bytes l m n ≡ head s) c.before.letters.ensures (left_is (limited c)) (right_is (limited c)) refl in
-    next (both s) (subst (λ p. Puts s.args.buf.now 0 p c.put-head.new.0 c.put-head.result) e c.put-head.ensures) c.put-head.auto.0
+    let s = start c.before.before.before in
+    let e = swap (λ l m n. head_bytes l m n ≡ head s) c.letters.ensures (left_is c.before.before.before) (right_is c.before.before.before) refl in
+    next (both s) (subst (λ p. Puts s.args.buf.now 0 p c.put_head-at.new.buf c.put_head-at.result) e c.put_head-at.ensures) c.put_head-at.auto.buf
 
-limits-requires : tie.Need-limits-requires
-limits-requires c κs = search rules
+pub put_head-at-requires : goal.put_head-at-requires
+put_head-at-requires c =
+    swap (HeadAsks c.before.before.before.before.before.before.before) c.letters.ensures (left_is c.before.before.before) (right_is c.before.before.before) (head-asks c.before.before.before.before.before.before.before)
 
-limits-requires-2 : tie.Need-limits-requires-2
-limits-requires-2 c κs = search rules
+pub overflow_cast-left : goal.overflow_cast-left
+overflow_cast-left c =
+    omega (arith, ap length (left_is c.before.before.before.before.before.before.before), head-asks c.before.before.before.before.before.before.before.before.before.before.before)
 
-letters-requires : tie.Need-letters-requires
-letters-requires c κs = search rules
+pub put_sides-requires : goal.put_sides-requires
+put_sides-requires c =
+    swap (SidesAsk c.before.before.before.before.before.before.before.before.before.before.before.before.before c.put_head-at.result c.put_head-at.new.buf) (left_is c.before.before.before.before.before.before.before.before.before) c.symbols.ensures c.symbols-2.ensures
+    (sides-ask c.before.before.before.before.before.before.before.before.before.before.before.before.before c.put_head-at.result c.put_head-at.new.buf (fits (headed c.before.before.before.before.before.before)))
 
-put-head-requires : tie.Need-put-head-requires
-put-head-requires c κs =
-    let at-limits = c.before.before in
-    let s = start at-limits in
-    swap (HeadAsks s) c.letters.ensures (left_is at-limits) (right_is at-limits) (head-asks s)
-
-cast-put-sides : tie.Need-overflow-cast-put-sides
-cast-put-sides c =
-    let at-limits = limited c.before.before.before in
-    omega (arith, ap length (left_is at-limits), head-asks (start at-limits))
-
-symbols-requires : tie.Need-symbols-requires
-symbols-requires c κs = search rules
-
-symbols-requires-2 : tie.Need-symbols-requires-2
-symbols-requires-2 c κs = search rules
-
-put-sides-requires : tie.Need-put-sides-requires
-put-sides-requires c κs =
-    let at_head = c.before.before.before.before.before in
-    let at-limits = limited at_head in
-    let s = start at-limits in
-    swap (SidesAsk s at_head.put-head.result at_head.put-head.new.0) (left_is at-limits) c.before.symbols.ensures c.symbols2.ensures
-    (sides-ask s at_head.put-head.result at_head.put-head.new.0 (fits (headed at_head)))
-
-same_length : tie.Need-same-length
-same_length c = search rules
-
-returns : tie.Need-returns
+pub returns : goal.returns
 returns c =
-    let after = c.before.before in
-    let at-symbols2 = after.before in
-    let at_head = at-symbols2.before.before.before.before.before in
-    let at-limits = limited at_head in
-    let s = start at-limits in
-    let e = swap (λ l m n. sides_bytes (length l) m n ≡ tail s) (left_is at-limits) at-symbols2.before.symbols.ensures at-symbols2.symbols2.ensures refl in
-    ends _ _ (headed at_head) (subst (λ p. Puts at_head.put-head.new.0 at_head.put-head.result p after.put_sides.new.0 after.put_sides.result) e after.put_sides.ensures) after.put_sides.auto.0
-
-pub put-question-spec : {M : Type 1} → statement M
-put-question-spec =
-    tie.close
-    (tie.spec
-    limits-requires
-    limits-requires-2
-    letters-requires
-    put-head-requires
-    cast-put-sides
-    symbols-requires
-    symbols-requires-2
-    put-sides-requires
-    same_length
-    returns)
+    let e = swap (λ l m n. sides_bytes (length l) m n ≡ tail c.before.before.before.before.before.before.before.before.before.before.before.before.before.before.before.before) (left_is c.before.before.before.before.before.before.before.before.before.before.before.before) c.symbols.ensures c.symbols-2.ensures refl in
+    ends _ _ (headed c.before.before.before.before.before.before.before.before.before) (subst (λ p. Puts c.put_head-at.new.buf c.put_head-at.result p c.put_sides.new.buf c.put_sides.result) e c.put_sides.ensures) c.put_sides.auto.buf
