@@ -17,13 +17,10 @@ prove() {
     for program in search clauses reply; do
         [ -x "target/bin/$program" ] || missing+=("$program")
     done
+    [ -f target/staticlib/libengine.a ] || missing+=(engine)
     if [ "${#missing[@]}" -gt 0 ]; then
-        progress "rt check ${missing[*]} (some minutes) .."
-        rt check "${missing[@]}" >&2 || fail "rt check ${missing[*]}"
-    fi
-    if [ ! -f target/staticlib/libengine.a ]; then
-        progress "rt staticlib engine (some minutes) .."
-        rt staticlib engine >&2 || fail "rt staticlib engine"
+        progress "tools/build ${missing[*]} (the first time all that they stand on is proved) .."
+        tools/build "${missing[@]}" >&2 || fail "tools/build ${missing[*]}"
     fi
     mkdir -p "$made"
 }

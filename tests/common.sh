@@ -8,8 +8,8 @@ passed=0
 
 # Proves and builds programs.
 build() { # PROGRAM..
-    echo "proving (some minutes the first time) .."
-    rt check "$@" | grep -E '^rt: |error' || { echo "tests/$name: FAILED; target/log has what was printed"; exit 1; }
+    echo "proving (the first time all that they stand on) .."
+    tools/build "$@" >"$room/built" || { echo "tests/$name: FAILED; target/log has what was printed"; exit 1; }
 }
 
 # Prints each byte of a sheet as printf takes it. A sheet's file has hexadecimal digits, and comments on lines that start with #.

@@ -3,7 +3,7 @@
  * which templates clash, and with an hours file after the book's name which of them clash and share a minute. Without a file it asks a small book of
  * its own, without hours and with them.
  *
- * After `rt staticlib engine`, this line builds it from the repository's folder:
+ * After `tools/build engine`, this line builds it from the repository's folder:
  *
  *     cc -std=c99 -Iinclude -o target/example bindings/c/example.c -Ltarget/staticlib -lengine
  *

@@ -1,5 +1,5 @@
 //! Finds libengine.a and tells cargo to link it. It is looked for in the folder that LUNTHEGYR_LIB names, or else where
-//! `rt staticlib engine` puts it.
+//! `tools/build engine` puts it.
 
 use std::env;
 use std::path::PathBuf;
@@ -19,7 +19,7 @@ fn main() {
     println!("cargo:rerun-if-changed={}", library.display());
     if !library.is_file() {
         eprintln!("lunthegyr: {} is not there.", library.display());
-        eprintln!("Build it with `rt staticlib engine` in the repository's folder, or name the folder that has it in LUNTHEGYR_LIB.");
+        eprintln!("Build it with `tools/build engine` in the repository's folder, or name the folder that has it in LUNTHEGYR_LIB.");
         exit(1);
     }
     println!("cargo:rustc-link-search=native={}", folder.display());

@@ -114,6 +114,8 @@ fn lines(text: &str) -> impl Iterator<Item = &str> {
 fn crates(text: &str) -> BTreeMap<String, BTreeSet<String>> {
     let all: BTreeMap<&str, &str> = lines(text)
         .filter_map(|line| line.split_once(':'))
+        // A static library has that word after its name.
+        .map(|(name, names)| (name.split(' ').next().unwrap_or(name), names))
         .collect();
     let used = |names: &str| -> BTreeSet<String> {
         let names = names.split_whitespace();

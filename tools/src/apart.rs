@@ -69,7 +69,7 @@ fn reasons(input: &Input) -> String {
         );
     }
     text += "\
-- This tool is not proved. The search program is: `rt check search` builds it, and `target/bin/search` takes
+- This tool is not proved. The search program is: `tools/build search` builds it, and `target/bin/search` takes
   the bytes that `tools/lunthegyr bytes` writes. docs/APART.md tells what is proved, tested and assumed.
 ";
     text

@@ -1,6 +1,7 @@
 // What an accepted book says, by number: its letters, and each template's limits and symbols as that stretch of the caller's book. Every function here
 // requires an accepted book, and where it takes a template's number one that the book has. It knows nothing of how a book comes to be accepted, nor of what it asks.
 #![tactic(auto)]
+
 ghost use Rattle.std.specs.Prelude.{◌≡◌, map, ◌<◌, length, drop};
 ghost use Rattle.model.specs.Lists.{each, Holds};
 ghost use Rattle.model.specs.Sheet.{symbol_byte};

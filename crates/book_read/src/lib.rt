@@ -1,5 +1,6 @@
 // Reads a book of templates: accepted, or document 02's refusal 40 or 41. It knows nothing of what a book asks.
 #![tactic(auto)]
+
 ghost use Rattle.std.specs.Prelude.{◌≡◌, ◌+◌, ◌≤◌, length, drop};
 ghost use Rattle.model.specs.Sheet.{times};
 ghost use Rattle.book.specs.Book.{a_template, body, some_symbols, some_templates};

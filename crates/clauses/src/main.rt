@@ -1,27 +1,29 @@
 // Prints the clause file of the sheet on standard input, or only `refused`, a space, document 01's number of the refusal and a line end.
 #![tactic(auto)]
+
 ghost use Rattle.std.specs.Prelude.{◌≤◌, length};
 ghost use Rattle.model.specs.Lists.{Puts};
 ghost use Rattle.formula.specs.Dimacs.{most_file};
 ghost use Rattle.calls.specs.Report.{clauses_printed};
 
-use libc::{STDIN_FILENO, STDOUT_FILENO};
+use input::read_full;
 use sheet::{ENOUGH, Reading};
+use std::io;
 
 // Room for any file: line 0 and at most 47,600 others, each of at most 38 bytes.
 const MOST_FILE: usize = 1808838;
 
-fn main() {
+fn main(rt: HostRuntime) -> io::Result<()> {
     let mut buf = [0u8; ENOUGH];
-    let n = io::read_full(STDIN_FILENO, &mut buf);
-    show(&buf[..n]);
+    let n = read_full(&mut rt.stdin(), &mut buf);
+    show(&rt, &buf[..n])
 }
 
 // Prints the answer.
-fn show(sheet: &[u8]) {
+fn show(rt: &impl Print, sheet: &[u8]) -> io::Result<()> {
     let mut out = [0u8; MOST_FILE];
     let n = answer(sheet, &mut out);
-    io::write_all(STDOUT_FILENO, &out[..n]);
+    rt.write_all(&out[..n])
 }
 
 // What is printed for a sheet, at the front of a buffer. Returns its length; later bytes are as they were.

@@ -1,6 +1,7 @@
 // The public calls for C and Rust. Each returns minus a refusal's number, or its answer, 0 or more; what is lent to it is
 // untouched on a refusal. Each is one call of a function below it with the same contract, which does the work.
 #![tactic(auto)]
+
 ghost use Rattle.std.specs.Prelude.{◌≡◌, length};
 ghost use Rattle.calls.specs.Calls.{reading, checking, spelling, searching, counting, writing, filing, replying, comparing, comparing_hours};
 ghost use Rattle.c_answer.specs.Returned.{returned, lent_after, Handed, HandedOver, Decided, Explained};

@@ -1,6 +1,7 @@
 // Reads a sheet from the file sheet.tpl and a solver's reply from reply.txt, and prints the report of the clash that the reply gives, or only
 // `refused`, a space, document 01's number of the refusal and a line end. A file that cannot be opened counts as empty.
 #![tactic(auto)]
+
 ghost use Rattle.std.specs.Prelude.{◌≤◌, length, take, ◌≡◌};
 ghost use Rattle.model.specs.Lists.{Puts};
 ghost use Rattle.model.specs.Sheet.{sheet_of};
@@ -9,19 +10,22 @@ ghost use Rattle.calls.specs.Report.{most_report, printed};
 
 use decoding::Reply;
 use fields::{FIELD_BYTES, MOST_BYTES};
-use libc::STDOUT_FILENO;
+use input::read_full;
 use report::MOST_REPORT;
 use sheet::ENOUGH;
+use std::fs::File;
+use std::io;
+use std::rt::Files;
 
 // Of a text the first 65,537 bytes decide the answer: one more than are allowed.
 const TEXT: usize = 65537;
 
-fn main() {
+fn main(rt: HostRuntime) -> io::Result<()> {
     let mut sheet = [0u8; ENOUGH];
-    let n = read_file(b"sheet.tpl", &mut sheet);
+    let n = read_file(&rt, "sheet.tpl", &mut sheet);
     let mut text = room();
-    let m = read_file(b"reply.txt", &mut text);
-    show(&sheet[..n], &text[..m]);
+    let m = read_file(&rt, "reply.txt", &mut text);
+    show(&rt, &sheet[..n], &text[..m])
 }
 
 // Room for a text. As a function of its own it keeps the array's many bytes out of the proof of `main`.
@@ -31,24 +35,21 @@ fn room() -> [u8; TEXT] {
 
 // Reads a file from its start on, as much as the buffer takes. Returns how many bytes it got. The last clause is what `&buf[..r]` asks of a
 // caller.
-fn read_file(path: &[u8], buf: &mut [u8]) -> usize
+fn read_file(rt: &impl Files, path: &str, buf: &mut [u8]) -> usize
     ensures upper_bound { result ≤ length buf.new }
     ensures value { result ≡ length (take result buf.new) }
 {
-    let file = os::open_read(path);
-    if file < 0 {
-        return 0;
+    match File::open(rt, path) {
+        Ok(mut file) => read_full(&mut file, buf),
+        Err(_) => 0,
     }
-    let n = io::read_full(file, buf);
-    libc::close(file);
-    n
 }
 
 // Prints the answer.
-fn show(sheet: &[u8], text: &[u8]) {
+fn show(rt: &impl Print, sheet: &[u8], text: &[u8]) -> io::Result<()> {
     let mut out = [0u8; MOST_REPORT];
     let n = answer(sheet, text, &mut out);
-    io::write_all(STDOUT_FILENO, &out[..n]);
+    rt.write_all(&out[..n])
 }
 
 // What is printed for a sheet and a reply, at the front of a buffer. Returns its length; later bytes are as they were.

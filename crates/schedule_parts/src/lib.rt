@@ -1,5 +1,6 @@
 // An hours file by offsets: a minute, and where a template's bytes start. It knows nothing of how a file comes to be accepted, nor of what it means.
 #![tactic(auto)]
+
 ghost use Rattle.std.specs.Prelude.{◌≡◌, ◌+◌, ◌<◌, ◌≤◌, length};
 ghost use Rattle.schedule.specs.Schedule.{Admitted};
 ghost use Rattle.schedule.specs.Offsets.{minute_at, next_at, start_at};

@@ -1,5 +1,6 @@
 // Whether two templates of a book share a minute, by an accepted hours file. The test goes by the ends of their intervals.
 #![tactic(auto)]
+
 ghost use Rattle.std.specs.Prelude.{◌≡◌, ◌+◌, ◌*◌, ◌<◌, ◌≤◌, length};
 ghost use Rattle.model.specs.Lists.{any};
 ghost use Rattle.schedule.specs.Schedule.{schedule_of, Admitted};

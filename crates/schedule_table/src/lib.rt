@@ -1,5 +1,6 @@
 // Which templates of a book share a minute, as a table: 16 rows of 16 bytes, 1 in row i, at j, where i and j share one.
 #![tactic(auto)]
+
 ghost use Rattle.std.specs.Prelude.{◌≡◌, ◌≤◌, length};
 ghost use Rattle.schedule.specs.Schedule.{schedule_of, Admitted};
 ghost use Rattle.schedule_table.specs.Table.{Marks, Shows};

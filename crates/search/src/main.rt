@@ -1,27 +1,29 @@
 // Searches the sheet on standard input and prints the report of the first clash, or `apart`, or only `refused`, a space, document 01's number of the
 // refusal and a line end.
 #![tactic(auto)]
+
 ghost use Rattle.std.specs.Prelude.{◌≤◌, length};
 ghost use Rattle.model.specs.Lists.{Puts};
 ghost use Rattle.calls.specs.Report.{most_report, search_printed};
 
 use automaton::Verdict;
 use fields::{FIELD_BYTES, MOST_BYTES};
-use libc::{STDIN_FILENO, STDOUT_FILENO};
+use input::read_full;
 use report::MOST_REPORT;
 use sheet::ENOUGH;
+use std::io;
 
-fn main() {
+fn main(rt: HostRuntime) -> io::Result<()> {
     let mut buf = [0u8; ENOUGH];
-    let n = io::read_full(STDIN_FILENO, &mut buf);
-    show(&buf[..n]);
+    let n = read_full(&mut rt.stdin(), &mut buf);
+    show(&rt, &buf[..n])
 }
 
 // Prints the answer.
-fn show(sheet: &[u8]) {
+fn show(rt: &impl Print, sheet: &[u8]) -> io::Result<()> {
     let mut out = [0u8; MOST_REPORT];
     let n = answer(sheet, &mut out);
-    io::write_all(STDOUT_FILENO, &out[..n]);
+    rt.write_all(&out[..n])
 }
 
 // What is printed for a sheet, at the front of a buffer. Returns its length; later bytes are as they were.

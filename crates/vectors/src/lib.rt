@@ -1,41 +1,62 @@
 // What the vector programs share. A line of their standard input is a vector's name, a colon and what the vector asks; or it has no colon,
 // is a heading and is printed as it is.
 #![tactic(auto)]
-ghost use Rattle.std.specs.Prelude.{◌≤◌};
 
-use hex::find;
-use libc::STDOUT_FILENO;
+ghost use Rattle.std.specs.Prelude.{◌≡◌, ◌≤◌, IfOk, length, min, take};
+
+use hexadecimal::find;
+use std::io;
+
+// Of the standard input the first 65,536 bytes are read.
+pub const MOST_INPUT: usize = 65536;
+
+// Room for the standard input. As a function of its own it keeps the array's many bytes out of the proofs of its callers, who need its length.
+pub fn room() -> [u8; MOST_INPUT]
+    ensures { 65536 ≡ length result }
+{
+    [0u8; MOST_INPUT]
+}
 
 // Prints each heading from the line at `from` on, and the name of the next vector. Returns where that vector's colon stands, or an index past
 // the text where no vector is left.
-pub fn next(text: &[u8], from: usize) -> usize
-    ensures { from ≤ result }
+pub fn next(rt: &impl Print, text: &[u8], from: usize) -> io::Result<usize>
+    ensures { IfOk result (λ r. from ≤ r) }
 {
     let mut at = from;
     while at < text.len() {
         let end = find(text, at, b'\n');
         let colon = find(&text[..end], at, b':');
-        io::write_all(STDOUT_FILENO, &text[at..colon]);
+        rt.write_all(&text[at..colon])?;
         if colon < end {
-            return colon;
+            return Ok(colon);
         }
-        io::write_all(STDOUT_FILENO, b"\n");
+        rt.write_all(b"\n")?;
         at = end + 1;
     }
-    at
+    Ok(at)
 }
 
 // Prints that a call is refused, and document 01's number of the refusal.
-pub fn show_refused(number: u8) {
-    io::write_all(STDOUT_FILENO, b": refused ");
-    io::print_decimal(STDOUT_FILENO, number as u64);
+pub fn show_refused(rt: &impl Print, number: u8) -> io::Result<()> {
+    print!(rt; ": refused {number}")
 }
 
 // Prints each byte as two hexadecimal digits.
-pub fn show_bytes(bytes: &[u8]) {
-    let mut i = 0;
-    while i < bytes.len() {
-        io::print_hex(STDOUT_FILENO, bytes[i] as u64, 2);
-        i += 1;
+pub fn show_bytes(rt: &impl Print, bytes: &[u8]) -> io::Result<()> {
+    for byte in bytes {
+        let x = *byte;
+        print!(rt; "{x:02x}")?;
     }
+    Ok(())
+}
+
+// How many bytes of `buf` are lent where `asked` are asked for: those that it has, if they are fewer. The last clause is what `&buf[..r]` asks
+// of a caller.
+pub fn lent(asked: u8, buf: &[u8]) -> usize
+    ensures least { result ≡ min asked (length buf.now) }
+    ensures upper_bound { result ≤ length buf.now }
+    ensures value { result ≡ length (take result buf.now) }
+{
+    let n = asked as usize;
+    if n < buf.len() { n } else { buf.len() }
 }

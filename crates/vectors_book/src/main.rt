@@ -3,10 +3,12 @@
 // the book, a semicolon, with hours their file and another semicolon, and the length of the lent buffer, one byte, all in hexadecimal. A line with no colon is a
 // heading and is printed as it is. The file stdout has document 02's answers.
 #![tactic(auto)]
+
 use book_list::Compared;
-use hex::{decode, find, signed};
-use libc::{STDIN_FILENO, STDOUT_FILENO};
-use vectors::{next, show_bytes, show_refused};
+use hexadecimal::{decode, find};
+use input::read_full;
+use std::io;
+use vectors::{lent, next, room, show_bytes, show_refused};
 
 // Room for a book's bytes. Document 02 accepts none of more than 287.
 const BOOK: usize = 300;
@@ -18,91 +20,88 @@ const HOURS: usize = 300;
 const LENT: usize = 256;
 
 // Shows each vector of standard input, of which the first 65,536 bytes are read.
-fn main() {
-    let mut buf = io::large_buffer();
-    let n = io::read_full(STDIN_FILENO, &mut buf);
-    show_vectors(&buf[..n]);
+fn main(rt: HostRuntime) -> io::Result<()> {
+    let mut buf = room();
+    let n = read_full(&mut rt.stdin(), &mut buf);
+    show_vectors(&rt, &buf[..n])
 }
 
 // Shows each vector of a text.
-fn show_vectors(text: &[u8]) {
-    let mut at = next(text, 0);
+fn show_vectors(rt: &impl Print, text: &[u8]) -> io::Result<()> {
+    let mut at = next(rt, text, 0)?;
     while at < text.len() {
         let end = find(text, at, b'\n');
-        show_vector(&text[at..end]);
-        at = next(text, end + 1);
+        show_vector(rt, &text[at..end])?;
+        at = next(rt, text, end + 1)?;
     }
+    Ok(())
 }
 
 // Prints the answer to a vector: a book, what stands after it, and the length of the lent buffer.
-fn show_vector(text: &[u8]) {
+fn show_vector(rt: &impl Print, text: &[u8]) -> io::Result<()> {
     let middle = find(text, 0, b';');
     let mut book = [0u8; BOOK];
     // The colon and the semicolons are no digits, and are passed over.
     let n = decode(&text[..middle], &mut book);
-    show_book(&book[..n], &text[middle..]);
+    show_book(rt, &book[..n], &text[middle..])
 }
 
 // Prints the answer to a book, with what stands after it: with hours, if there are two semicolons.
-fn show_book(book: &[u8], text: &[u8]) {
+fn show_book(rt: &impl Print, book: &[u8], text: &[u8]) -> io::Result<()> {
     if text.len() == 0 {
-        return;
+        return Ok(());
     }
     let last = find(text, 1, b';');
     if last == text.len() {
-        show_lent(book, length(text));
-        return;
+        return show_lent(rt, book, length(text));
     }
     let mut hours = [0u8; HOURS];
     let n = decode(&text[..last], &mut hours);
-    show_hours(book, &hours[..n], length(&text[last..]));
+    show_hours(rt, book, &hours[..n], length(&text[last..]))
 }
 
 // The length that a text gives.
 fn length(text: &[u8]) -> u8 {
-    let mut lent = [0u8; 1];
-    decode(text, &mut lent);
-    lent[0]
+    let mut asked = [0u8; 1];
+    decode(text, &mut asked);
+    asked[0]
 }
 
 // Lends a buffer full of dots, as long as is asked, and prints what comparing the templates answers.
-fn show_lent(book: &[u8], lent: u8) {
+fn show_lent(rt: &impl Print, book: &[u8], asked: u8) -> io::Result<()> {
     let mut buf = [b'.'; LENT];
-    let n = io::count(signed(lent), &buf);
-    show_compared(book, &mut buf[..n]);
+    let n = lent(asked, &buf);
+    show_compared(rt, book, &mut buf[..n])
 }
 
-fn show_compared(book: &[u8], buf: &mut [u8]) {
-    show_list(book_list::compare(book, buf));
-    show_buffer(buf);
+fn show_compared(rt: &impl Print, book: &[u8], buf: &mut [u8]) -> io::Result<()> {
+    show_list(rt, book_list::compare(book, buf))?;
+    show_buffer(rt, buf)
 }
 
 // The same with hours.
-fn show_hours(book: &[u8], hours: &[u8], lent: u8) {
+fn show_hours(rt: &impl Print, book: &[u8], hours: &[u8], asked: u8) -> io::Result<()> {
     let mut buf = [b'.'; LENT];
-    let n = io::count(signed(lent), &buf);
-    show_scheduled(book, hours, &mut buf[..n]);
+    let n = lent(asked, &buf);
+    show_scheduled(rt, book, hours, &mut buf[..n])
 }
 
-fn show_scheduled(book: &[u8], hours: &[u8], buf: &mut [u8]) {
-    show_list(book_hours::compare(book, hours, buf));
-    show_buffer(buf);
+fn show_scheduled(rt: &impl Print, book: &[u8], hours: &[u8], buf: &mut [u8]) -> io::Result<()> {
+    show_list(rt, book_hours::compare(book, hours, buf))?;
+    show_buffer(rt, buf)
 }
 
 // Prints what comparing the templates answers.
-fn show_list(compared: Compared) {
+fn show_list(rt: &impl Print, compared: Compared) -> io::Result<()> {
     match compared {
-        Compared::Listed(n) => {
-            io::write_all(STDOUT_FILENO, b": listed ");
-            io::print_decimal(STDOUT_FILENO, n as u64);
-        }
-        Compared::Refused(refusal) => show_refused(book_list::number(refusal)),
+        Compared::Listed(n) => print!(rt; ": listed {n}"),
+        Compared::Refused(refusal) => show_refused(rt, book_list::number(refusal)),
     }
 }
 
 // Prints the lent buffer as it then is, between bars.
-fn show_buffer(buf: &[u8]) {
-    io::write_all(STDOUT_FILENO, b" |");
-    show_bytes(buf);
-    io::write_all(STDOUT_FILENO, b"|\n");
+fn show_buffer(rt: &impl Print, buf: &[u8]) -> io::Result<()> {
+    rt.write_all(b" |")?;
+    show_bytes(rt, buf)?;
+    rt.write_all(b"|\n")
 }

@@ -5,12 +5,14 @@
 // it is the text, written as `unescape` reads it. A line with no colon is a heading and is printed as
 // it is. The file stdout has document 01's answers.
 #![tactic(auto)]
+
 ghost use Rattle.std.specs.Prelude.{◌≡◌, ◌≤◌, length, take};
 
 use decoding::Reply;
-use hex::{after, decode, find, signed};
-use libc::{STDIN_FILENO, STDOUT_FILENO};
-use vectors::{next, show_bytes, show_refused};
+use hexadecimal::{after, decode, find};
+use input::read_full;
+use std::io;
+use vectors::{lent, next, room, show_bytes, show_refused};
 
 // Room for a sheet's bytes. Document 01 accepts none of more than 159.
 const SHEET: usize = 256;
@@ -26,38 +28,39 @@ const FILL: usize = 65515;
 const LENT: usize = 64;
 
 // Shows each vector of standard input, of which the first 65,536 bytes are read.
-fn main() {
-    let mut buf = io::large_buffer();
-    let n = io::read_full(STDIN_FILENO, &mut buf);
-    show_vectors(&buf[..n]);
+fn main(rt: HostRuntime) -> io::Result<()> {
+    let mut buf = room();
+    let n = read_full(&mut rt.stdin(), &mut buf);
+    show_vectors(&rt, &buf[..n])
 }
 
 // Shows each vector of a text.
-fn show_vectors(text: &[u8]) {
-    let mut at = next(text, 0);
+fn show_vectors(rt: &impl Print, text: &[u8]) -> io::Result<()> {
+    let mut at = next(rt, text, 0)?;
     while at < text.len() {
         let end = find(text, at, b'\n');
-        show_vector(&text[at..end]);
-        at = next(text, end + 1);
+        show_vector(rt, &text[at..end])?;
+        at = next(rt, text, end + 1)?;
     }
+    Ok(())
 }
 
 // Prints the answer to a vector: a sheet, the length of the lent buffer and a text.
-fn show_vector(text: &[u8]) {
+fn show_vector(rt: &impl Print, text: &[u8]) -> io::Result<()> {
     let first = find(text, 0, b';');
     let second = find(text, after(text, first), b';');
     let mut sheet = [0u8; SHEET];
-    let mut lent = [0u8; 1];
-    let mut reply = room();
+    let mut asked = [0u8; 1];
+    let mut reply = text_room();
     // The colon and the first semicolon are no digits, and are passed over.
     let n = decode(&text[..first], &mut sheet);
-    decode(&text[first..second], &mut lent);
+    decode(&text[first..second], &mut asked);
     let m = unescape(&text[after(text, second)..], &mut reply);
-    show_read(&sheet[..n], &reply[..m], lent[0]);
+    show_read(rt, &sheet[..n], &reply[..m], asked[0])
 }
 
 // Room for a text. As a function of its own it keeps the array's many bytes out of the proof of its caller.
-fn room() -> [u8; TEXT] {
+fn text_room() -> [u8; TEXT] {
     [0u8; TEXT]
 }
 
@@ -130,22 +133,20 @@ fn put(out: &mut [u8], from: usize, x: u8, times: usize) -> usize
 }
 
 // Lends a buffer full of dots, as long as is asked, and prints what reading a reply answers.
-fn show_read(sheet: &[u8], text: &[u8], lent: u8) {
+fn show_read(rt: &impl Print, sheet: &[u8], text: &[u8], asked: u8) -> io::Result<()> {
     let mut buf = [b'.'; LENT];
-    let n = io::count(signed(lent), &buf);
-    show_reply(sheet, text, &mut buf[..n]);
+    let n = lent(asked, &buf);
+    show_reply(rt, sheet, text, &mut buf[..n])
 }
 
 // Prints what reading a reply answers, and the lent buffer as it then is, between bars.
-fn show_reply(sheet: &[u8], text: &[u8], buf: &mut [u8]) {
+fn show_reply(rt: &impl Print, sheet: &[u8], text: &[u8], buf: &mut [u8]) -> io::Result<()> {
     let reply = decoding::read_reply(sheet, text, buf);
     match reply {
-        Reply::Accepted => {
-            io::write_all(STDOUT_FILENO, b": accepted");
-        }
-        Reply::Refused(refusal) => show_refused(decoding::number(refusal)),
+        Reply::Accepted => rt.write_all(b": accepted")?,
+        Reply::Refused(refusal) => show_refused(rt, decoding::number(refusal))?,
     }
-    io::write_all(STDOUT_FILENO, b" |");
-    show_bytes(buf);
-    io::write_all(STDOUT_FILENO, b"|\n");
+    rt.write_all(b" |")?;
+    show_bytes(rt, buf)?;
+    rt.write_all(b"|\n")
 }

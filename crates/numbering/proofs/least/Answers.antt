@@ -54,7 +54,7 @@ next c =
     let back = small_back w8 at-coefficient.result (omega (arith, small place-coefficient)) in
     let is = c.lowest-sum.ensures ∙ ap (λ z. lowest z c.limit.result) (back ∙ at-coefficient.ensures) ∙ ap (lowest (coefficient r l.f)) c.limit.ensures.0 in
     let term = lowest-small (coefficient r l.f) (limit s l.f) (coefficient_few s at-start.requires.0.1 at-start.args.r at-start.requires.1 l.f) (limit-small s at-start.requires.0.1 l.f) in
-    let sum = ap (to_z w16) l.invariant.1 ∙ small_back w16 (least s r l.f) (omega (arith, at-start.requires.2)) in
+    let sum = l.invariant.1 in
     rw (sum, is, small_back w16 (lowest (coefficient r l.f) (limit s l.f)) (omega arith)) (sym (least_more s r l.f))
 
 pub overflow_add-sum : goal.overflow_add-sum
@@ -65,12 +65,14 @@ overflow_add-sum c =
     rw (next c.before) (small-fits w16 (least s (constraint s c.args.r) k) (omega (arith, least-small s c.requires.0.1 c.args.r c.requires.1 k, fields-few s c.requires.0.1, c.requires.2)))
 
 pub loop-f-preserved : goal.loop-f-preserved
-loop-f-preserved c = (omega arith, ap (of_z w16) (next c.before))
+loop-f-preserved c =
+    let s = sheet_of c.args.sheet.now in
+    let k = c.loop-f.f + 1 in
+    (omega arith, rw (next c.before) (small_back w16 (least s (constraint s c.args.r) k) (omega (arith, least-small s c.requires.0.1 c.args.r c.requires.1 k, fields-few s c.requires.0.1, c.requires.2))))
 
 pub returns : goal.returns
 returns c =
     let s = sheet_of c.args.sheet.now in
     let l = c.loop-f in
     let e : l.f ≡ c.args.k = omega arith in
-    let n = least-small s c.requires.0.1 c.args.r c.requires.1 l.f in
-    ap (to_z w16) l.invariant.1 ∙ small_back w16 (least s (constraint s c.args.r) l.f) (omega (arith, fields-few s c.requires.0.1, c.requires.2)) ∙ ap (least s (constraint s c.args.r)) e
+    l.invariant.1 ∙ ap (least s (constraint s c.args.r)) e

@@ -12,7 +12,7 @@ use Rattle.scan.proofs.Machine.{small-fits, small_back}
 use Rattle.numbering.proofs.least.Given as goal
 
 abbrev pub invariant-loop-f : goal.invariant-loop-f
-invariant-loop-f l = (l.f ≤ l.k) × (l.sum ≡ of_z w16 (least (sheet_of l.sheet) (constraint (sheet_of l.sheet) l.r) l.f))
+invariant-loop-f l = (l.f ≤ l.k) × (l.sum ≡ least (sheet_of l.sheet) (constraint (sheet_of l.sheet) l.r) l.f)
 
 abbrev pub decreases-loop-f : goal.decreases-loop-f
 decreases-loop-f l = l.k - l.f

@@ -1,0 +1,15 @@
+use mathlib.Core.Path.{◌≡◌}
+use Prim.Native.Nat.{ℕ, suc, ◌+◌, ◌-◌, ◌*◌, ◌≤◌}
+use native.Mathlib.Omega.{arith}
+use Rattle.model.specs.Lists.{total}
+use Rattle.model.proofs.Keeping.{total-more, total-none}
+use Rattle.counting.proofs.not_both_count.Given as goal
+
+abbrev pub part : ℕ → ℕ → ℕ
+part l a = l - a
+
+abbrev pub invariant-loop-a : goal.invariant-loop-a
+invariant-loop-a l = (l.a ≤ l.l + 1) × (l.sum ≡ total l.a (part l.l)) × (l.sum ≤ l.a * 8)
+
+abbrev pub decreases-loop-a : goal.decreases-loop-a
+decreases-loop-a l = l.l + 1 - l.a

@@ -1,0 +1,63 @@
+// Text that gives bytes in hexadecimal, as the programs take their vectors: where a part of it ends
+// and the next begins, and which bytes it gives.
+#![tactic(auto)]
+
+ghost use Rattle.std.specs.Prelude.{◌≡◌, ◌≤◌, length, take};
+
+// What `digit` answers for a byte that is no digit.
+const NO_DIGIT: u8 = 16;
+
+// The index of the first `x` at or after `from`, or the length of `text` where there is none. The
+// last clause follows from the one before it, and is what `&text[..r]` asks of a caller.
+pub fn find(text: &[u8], from: usize, x: u8) -> usize
+    requires { from ≤ length text.now }
+    ensures lower_bound { from ≤ result }
+    ensures upper_bound { result ≤ length text.now }
+    ensures value { result ≡ length (take result text.now) }
+{
+    scan::find(text, from, x)
+}
+
+// The index after `at`, but none past the end of `text`.
+pub fn after(text: &[u8], at: usize) -> usize
+    requires { at ≤ length text.now }
+    ensures lower_bound { at ≤ result }
+    ensures upper_bound { result ≤ length text.now }
+{
+    if at < text.len() { at + 1 } else { at }
+}
+
+// Puts the bytes that the hexadecimal digits of `text` spell at the front of `out`, as many as it
+// has room for, and answers how many. What is no digit is passed over, and so is a last half byte.
+// The last clause is what `&out[..r]` asks of a caller.
+pub fn decode(text: &[u8], out: &mut [u8]) -> usize
+    ensures upper_bound { result ≤ length out.new }
+    ensures value { result ≡ length (take result out.new) }
+{
+    let mut n = 0;
+    let mut high = NO_DIGIT;
+    let mut i = 0;
+    while i < text.len() && n < out.len() {
+        let low = digit(text[i]);
+        if low < NO_DIGIT {
+            if high < NO_DIGIT {
+                out[n] = high * 16 + low;
+                n += 1;
+                high = NO_DIGIT;
+            } else {
+                high = low;
+            }
+        }
+        i += 1;
+    }
+    n
+}
+
+// The value of a hexadecimal digit, in upper case, or `NO_DIGIT` for any other byte.
+fn digit(x: u8) -> u8 {
+    match x {
+        b'0'..=b'9' => x - b'0',
+        b'A'..=b'F' => x - b'A' + 10,
+        _ => NO_DIGIT,
+    }
+}

@@ -1,0 +1,17 @@
+use mathlib.Core.Path.{◌≡◌, subst, ◌∙◌}
+use Prim.Native.Nat.{suc, ◌+◌, ◌-◌, ◌<◌, ◌≤◌}
+use native.Mathlib.Omega.{arith}
+use lib.ListN.{length}
+use Rattle.model.specs.Lists.{total}
+use Rattle.model.specs.Sheet.{sheet_of}
+use Rattle.formula.specs.Clause.{right_cells}
+use Rattle.formula.specs.Count.{location_size}
+use Rattle.formula.proofs.Small.{letters-few}
+use Rattle.locating.proofs.Laws.{at_first, at_next, never_past, location_known, sides-known, location_found}
+use Rattle.locating.proofs.in_row.Given as goal
+
+abbrev pub invariant-loop-j : goal.invariant-loop-j
+invariant-loop-j l = (l.j ≤ l.width + 1) × (total l.j (location_size (sheet_of l.sheet) l.p l.i) + l.rest ≡ l.n)
+
+abbrev pub decreases-loop-j : goal.decreases-loop-j
+decreases-loop-j l = l.width + 1 - l.j
