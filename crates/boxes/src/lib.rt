@@ -2,6 +2,7 @@
 // two trails are walked as far as they go. A box is cut where nothing is left of a range, or where a walk fails; a box of one vector is tried; any other is
 // parted by the length of one field, which `choice` names.
 #![tactic(auto)]
+
 ghost use Rattle.std.specs.Prelude.{◌≡◌, false, ◌≤◌, length};
 ghost use Rattle.walk.specs.Walk.{Cells};
 ghost use Rattle.trails.specs.Equations.{equations, cell_total};

@@ -1,6 +1,7 @@
 // Gathers the rows of the equations and constraints that are asked, one after the other at the front of a lent slice. Knows nothing of what
 // a row says.
 #![tactic(auto)]
+
 ghost use Rattle.std.specs.Prelude.{◌≡◌, ◌+◌, ◌*◌, ◌<◌, ◌≤◌, length};
 ghost use Rattle.model.specs.Lists.{each, when, Puts, placed};
 ghost use Rattle.model.specs.Sheet.{sheet_of, equation, constraint};

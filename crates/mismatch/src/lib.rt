@@ -1,5 +1,6 @@
 // Two words compared: how many letters agree from the start, and which rest is left over; and the two words of an equation. It decides nothing.
 #![tactic(auto)]
+
 ghost use Rattle.std.specs.Prelude.{◌≡◌, ◌<◌, ltb, length};
 ghost use Rattle.model.specs.Lists.{pick};
 ghost use Rattle.model.specs.Sheet.{Sheet, sheet_of};

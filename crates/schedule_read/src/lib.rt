@@ -1,5 +1,6 @@
 // Reads an hours file, for a book of so many templates: accepted, or document 02's refusal 43, 44 or 45. It knows nothing of what shared minutes mean.
 #![tactic(auto)]
+
 ghost use Rattle.std.specs.Prelude.{◌≡◌, true, ◌+◌, ◌<◌, ◌≤◌, length};
 ghost use Rattle.schedule.specs.Schedule.{in_week};
 ghost use Rattle.schedule.specs.Offsets.{interval_at, own_at, next_at, laid};

@@ -1,5 +1,6 @@
 // Reads a sheet: its four counts, or the first refusal in document 01's order. It knows nothing of what a sheet means.
 #![tactic(auto)]
+
 ghost use Rattle.std.specs.Prelude.{◌≡◌, ◌≤◌, length, drop};
 ghost use Rattle.calls.specs.Calls.{reading_of, reading};
 ghost use Rattle.model.specs.Sheet.{ended, opening};

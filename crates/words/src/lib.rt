@@ -1,6 +1,7 @@
 // Words: the word that a template spells under a substitution; two words compared, and what is left over; words as letter bytes. Bytes are written
 // piece by piece into a lent buffer, each piece at the offset past the one before it.
 #![tactic(auto)]
+
 ghost use Rattle.std.specs.Prelude.{◌≡◌, map, ◌+◌, ◌<◌, ◌≤◌, length};
 ghost use Rattle.model.specs.Lists.{All, Puts};
 ghost use Rattle.model.specs.Sheet.{Sheet, symbol_of, Accepted, sheet_of};

@@ -1,10 +1,5 @@
 -- `words::agreeing` meets its contract. The loop's invariant: all letters before i agree, and the rests decide how many more do. Assumes nothing.
-use mathlib.Core.Path.{◌≡◌}
-use Prim.Native.Nat.{◌+◌, ◌-◌, ◌≤◌}
 use native.Mathlib.Omega.{arith}
-use lib.ListN.{length, drop}
-use Rattle.model.specs.Sheet.{Sheet}
-use Rattle.model.specs.Mismatch as mismatch
 use Rattle.model.proofs.Mismatches.{agree_here, agree-no-more, agree-left-ended, agree-right-ended}
 use Rattle.words.proofs.agreeing.Goals as goal
 

@@ -1,10 +1,8 @@
 use mathlib.Core.Path.{◌≡◌}
 use Prim.Native.Nat.{◌+◌, ◌-◌, ◌≤◌}
-use native.Mathlib.Omega.{arith}
 use lib.ListN.{length, drop}
 use Rattle.model.specs.Sheet.{Sheet}
 use Rattle.model.specs.Mismatch as mismatch
-use Rattle.model.proofs.Mismatches.{agree_here, agree-no-more, agree-left-ended, agree-right-ended}
 use Rattle.words.proofs.agreeing.Given as goal
 
 abbrev pub invariant-loop-i : goal.invariant-loop-i

@@ -1,10 +1,9 @@
 -- `words::put` meets its contract. The loop's invariant: the first i bytes of the piece are in their place. Assumes nothing.
 use mathlib.Core.Path.{◌≡◌, refl, ◌∙◌}
-use Prim.Native.Nat.{◌-◌, ◌≤◌}
 use native.Mathlib.Numerals.{add-one}
 use native.Mathlib.Omega.{arith}
 use lib.ListN.{length, length-set}
-use lib.Seq.{paste, paste-zero, paste-suc}
+use lib.Seq.{paste-zero, paste-suc}
 use Rattle.model.proofs.Seams.{placed_paste}
 use Rattle.words.proofs.put.Goals as goal
 

@@ -1,12 +1,11 @@
 -- `words::put_letters` meets its contract. The loop's invariant: the first i letters are in their place. Assumes nothing.
 use mathlib.Core.Path.{◌≡◌, refl, ap, ◌∙◌}
 use mathlib.Core.List.{List}
-use Prim.Native.Nat.{ℕ, ◌+◌, ◌-◌, ◌<◌, ◌≤◌}
+use Prim.Native.Nat.{ℕ, ◌+◌, ◌<◌}
 use native.Mathlib.Numerals.{add-one}
 use native.Mathlib.Omega.{arith}
 use lib.ListN.{length, get_or, set, length-set, length-map, get_or-map}
 use lib.Seq.{paste, paste-zero, paste-suc}
-use borrow.Author.Rules.{rules}
 use Rattle.model.specs.Sheet.{Sheet, sheet_of, letter_of}
 use Rattle.model.specs.Word.{letter_bytes}
 use Rattle.model.proofs.Lists.{at}

@@ -3,7 +3,6 @@ use mathlib.Core.Path.{◌≡◌, sym, ap, ◌∙◌}
 use native.Mathlib.Omega.{arith}
 use lib.ListN.{length, take}
 use lib.Seq.{length-take-le}
-use borrow.Author.Rules.{rules}
 use Rattle.model.specs.Sheet.{symbol_of}
 use Rattle.model.specs.Word.{symbol_word}
 use Rattle.fields.specs.declared.Field.{Field}
@@ -37,34 +36,28 @@ whole-field c =
     whole-at c.args.g c.wide.result c.requires.0 (omega (arith, c.requires.1, c.wide.ensures.0))
 
 is_text : (c : lts.After-wide tie.the-claims reads.Pre reads.Post) →
-    let at-start = c.before.before.before in
-    symbol_word (texts_of at-start.args.g) (symbol_of at-start.args.symbol) ≡ text_of (the_field c)
+    symbol_word (texts_of c.args.g) (symbol_of c.args.symbol) ≡ text_of (the_field c)
 is_text c =
-    let at-start = c.before.before.before in
-    field-word at-start.args.g at-start.args.symbol c.if-symbol-lt-FIRST_FIELD.false ∙ ap (λ f. text_of (field at-start.args.g f)) (sym c.wide.ensures.0)
+    field-word c.args.g c.args.symbol c.if-symbol-lt-FIRST_FIELD.false ∙ ap (λ f. text_of (field c.args.g f)) (sym c.wide.ensures.0)
 
 pub slice_bounds-letters-end : goal.slice_bounds-letters-end
 slice_bounds-letters-end c =
-    let after-wide = c.before.before.before.before in
-    omega (arith, whole-field after-wide, c.wide-2.ensures.0)
+    omega (arith, whole-field c.before.before.before.before, c.wide-2.ensures.0)
 
 pub slice_bounds-put-end-2 : goal.slice_bounds-put-end-2
 slice_bounds-put-end-2 c =
-    let after-wide = c.before.before.before.before.before in
-    sym (length-take-le c.wide-2.result (the_field after-wide).letters (omega (arith, whole-field after-wide, c.wide-2.ensures.0)))
+    sym (length-take-le c.wide-2.result (the_field c.before.before.before.before.before).letters (omega (arith, whole-field c.before.before.before.before.before, c.wide-2.ensures.0)))
 
 pub put-requires-2 : goal.put-requires-2
 put-requires-2 c =
-    let after-wide = c.before.before.before.before.before in
-    let e = ap length (is_text after-wide) in
-    let n = ap (λ n. length (take n (the_field after-wide).letters)) c.wide-2.ensures.0 in
+    let e = ap length (is_text c.before.before.before.before.before) in
+    let n = ap (λ n. length (take n (the_field c.before.before.before.before.before).letters)) c.wide-2.ensures.0 in
     omega (arith, c.requires.2)
 
 pub returns : goal.returns
 returns c =
-    let after-wide = c.before.before.before.before.before.before.before.before.before in
     let at-wide2 = c.wide-2 in
     let at-put2 = c.put-2 in
-    let t = is_text after-wide in
-    let n = ap (λ n. take n (the_field after-wide).letters) at-wide2.ensures.0 in
+    let t = is_text c.before.before.before.before.before.before.before.before.before in
+    let n = ap (λ n. take n (the_field c.before.before.before.before.before.before.before.before.before).letters) at-wide2.ensures.0 in
     rw (t, ← n) at-put2.ensures

@@ -2,7 +2,6 @@
 use mathlib.Core.Path.{sym, ap, ◌∙◌}
 use native.Mathlib.Omega.{arith}
 use lib.ListN.{drop}
-use borrow.Author.Rules.{rules}
 use Rattle.model.proofs.Seams.{tail_lent}
 use Rattle.model.proofs.Mismatches.{rest-left, rest-right}
 use Rattle.words.proofs.rest.Goals as goal

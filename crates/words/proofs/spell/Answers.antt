@@ -1,9 +1,9 @@
 -- `words::spell` meets its contract. The loop's invariant: what the first i symbols spell has been written. Assumes nothing.
 use mathlib.Core.Path.{◌≡◌, sym, subst}
 use mathlib.Core.List.{map}
-use Prim.Native.Nat.{◌+◌, ◌-◌, ◌<◌, ◌≤◌}
+use Prim.Native.Nat.{◌+◌, ◌<◌}
 use native.Mathlib.Omega.{arith}
-use lib.ListN.{length, get_or, take, length-map}
+use lib.ListN.{get_or, take, length-map}
 use lib.Seq.{take_all}
 use Rattle.model.specs.Sheet.{symbol_of}
 use Rattle.model.specs.Word.{spell, symbol_word}

@@ -1,16 +1,10 @@
-use mathlib.Core.Path.{◌≡◌, sym, subst}
 use mathlib.Core.List.{map}
-use Prim.Native.Nat.{◌+◌, ◌-◌, ◌<◌, ◌≤◌}
-use native.Mathlib.Omega.{arith}
-use lib.ListN.{length, get_or, take, length-map}
-use lib.Seq.{take_all}
+use Prim.Native.Nat.{◌-◌, ◌≤◌}
+use lib.ListN.{length, take}
 use Rattle.model.specs.Sheet.{symbol_of}
-use Rattle.model.specs.Word.{spell, symbol_word}
-use Rattle.model.proofs.Lists.{at}
-use Rattle.model.proofs.Words.{spell-none}
-use Rattle.model.proofs.Seams.{Written, nothing, more}
+use Rattle.model.specs.Word.{spell}
+use Rattle.model.proofs.Seams.{Written}
 use Rattle.fields.specs.Memory.{texts_of}
-use Rattle.words.proofs.Symbols.{spelled-more, spelled-room}
 use Rattle.words.proofs.spell.Given as goal
 
 abbrev pub invariant-loop-i : goal.invariant-loop-i

@@ -1,0 +1,7 @@
+-- What falls from call to call: the sum of the ranges.
+use Prim.Native.Nat.{◌-◌}
+use Rattle.bounds.specs.Bounds.{sum_of}
+use Rattle.bounds.proofs.+tighten.Given as goal
+
+abbrev pub decreases-tighten : goal.decreases-tighten
+decreases-tighten l = sum_of l.hi - sum_of l.lo
