@@ -1,5 +1,6 @@
 // Length vectors by their total, then the shorter field 0, field 1 and so on: the first at which an attempt succeeds, by questions to `boxes`.
 #![tactic(auto)]
+
 ghost use Rattle.std.specs.Prelude.{◌≡◌, true, false, ◌+◌, ◌<◌, ◌≤◌};
 ghost use Rattle.inequalities.specs.Rows.{Within};
 ghost use Rattle.trails.specs.Equations.{equations};

@@ -1,17 +1,13 @@
 -- `balance::lopsided` meets its contract. The first loop's invariant: no field below f keeps the combination from telling. Assumes nothing.
 use mathlib.Core.Path.{subst}
-use Prim.Native.Nat.{ℕ, ◌-◌, ◌<◌, ◌≤◌}
 use native.Mathlib.Omega.{arith}
 use lib.Arith.{lt_of_le-ne}
 use lib.Dec.{eqb}
 use borrow.Author.Tests.{eqb-true, eqb-false}
 use Rattle.model.specs.Sheet.{sheet_of}
 use Rattle.model.proofs.Lists.{never, by_test}
-use Rattle.balance.specs.Balance.{ways_of, joined_surplus, Fair, Unfair}
+use Rattle.balance.specs.Balance.{ways_of, Fair, Unfair}
 use Rattle.balance.proofs.Table.{sized, unfair_apart}
-use Rattle.balance.proofs.joined_surplus.Reads as joined-surplus-reads
-use Rattle.shape.proofs.fields.Reads as fields-reads
-use Rattle.shape.proofs.letters.Reads as letters-reads
 use Rattle.balance.proofs.lopsided.Goals as goal
 
 pub fields-end-requires : goal.fields-end-requires

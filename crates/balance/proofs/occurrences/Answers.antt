@@ -1,23 +1,19 @@
 -- `balance::occurrences` meets its contract. The loop's invariant: what was counted, and what is still to come, make the whole. Assumes nothing.
-use mathlib.Core.Path.{◌≡◌}
-use mathlib.Core.Logic.{⊎_elim}
-use Prim.Native.Nat.{◌+◌, ◌-◌, ◌≤◌}
 use native.Mathlib.Omega.{arith}
-use lib.ListN.{length, drop}
 use borrow.Author.Tests.{eq-eqb, ne_eqb}
-use Rattle.balance.specs.Balance.{count}
 use Rattle.balance.proofs.Counts.{count_turn, count_done}
 use Rattle.balance.proofs.occurrences.Goals as goal
+use Rattle.balance.proofs.occurrences.Goals.{then-template-i, else-template-i}
 
 pub loop-i-preserved : goal.loop-i-preserved
 loop-i-preserved c =
     let l = c.loop-i in
     let a = c.args in
     let turn = count_turn a.symbol a.template.now l.i (omega arith) in
-    ⊎_elim
-    (λ w. let here = eq-eqb _ _ w.0.taken in omega (arith, rw here at turn))
-    (λ w. let here = ne_eqb _ _ w.0.left in omega (arith, rw here at turn))
-    c.if-template-i.branch-raw
+    elim c.if-template-i.branch [
+      | then-template-i w ↦ let here = eq-eqb _ _ w.if-template-i.true in omega (arith, rw here at turn)
+      | else-template-i w ↦ let here = ne_eqb _ _ w.if-template-i.false in omega (arith, rw here at turn)
+    ]
 
 pub returns : goal.returns
 returns c =

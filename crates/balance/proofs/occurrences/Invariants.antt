@@ -1,11 +1,7 @@
 use mathlib.Core.Path.{◌≡◌}
-use mathlib.Core.Logic.{⊎_elim}
 use Prim.Native.Nat.{◌+◌, ◌-◌, ◌≤◌}
-use native.Mathlib.Omega.{arith}
 use lib.ListN.{length, drop}
-use borrow.Author.Tests.{eq-eqb, ne_eqb}
 use Rattle.balance.specs.Balance.{count}
-use Rattle.balance.proofs.Counts.{count_turn, count_done}
 use Rattle.balance.proofs.occurrences.Given as goal
 
 abbrev pub invariant-loop-i : goal.invariant-loop-i

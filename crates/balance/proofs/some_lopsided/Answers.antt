@@ -2,9 +2,6 @@
 use mathlib.Core.Path.{sym}
 use native.Mathlib.Omega.{arith}
 use Rattle.model.proofs.Lists.{never}
-use Rattle.balance.proofs.lopsided.Reads as lopsided-reads
-use Rattle.balance.proofs.tabulate.Reads as tabulate-reads
-use Rattle.shape.proofs.equations.Reads as equations-reads
 use Rattle.balance.proofs.some_lopsided.Goals as goal
 
 pub tabulate-table-requires : goal.tabulate-table-requires

@@ -1,12 +1,9 @@
 -- `balance::surplus` meets its contract. Assumes nothing.
 use mathlib.Core.Path.{ap, ◌∙◌}
 use native.Mathlib.Omega.{arith}
-use borrow.Author.Rules.{rules}
 use Rattle.model.specs.Sheet.{sheet_of}
 use Rattle.balance.specs.Balance.{count}
 use Rattle.balance.proofs.Joined.{template-few}
-use Rattle.balance.proofs.occurrences.Reads as occurrences-reads
-use Rattle.parts.proofs.template.Reads as template_reads
 use Rattle.balance.proofs.surplus.Goals as goal
 
 pub occurrences-left-requires : goal.occurrences-left-requires

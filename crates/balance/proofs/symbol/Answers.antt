@@ -1,5 +1,4 @@
 -- `balance::symbol` meets its contract. Assumes nothing.
-use borrow.Author.Rules.{rules}
 use borrow.Author.Tests.{lt-ltb, le-ltb}
 use Rattle.balance.proofs.symbol.Goals as goal
 

@@ -1,21 +1,18 @@
 -- `balance::tabulate` meets its contract. The loop's invariant: the entries below i are there, and the others are even. Assumes nothing.
 use mathlib.Core.Path.{◌≡◌, refl, ◌∙◌}
 use mathlib.Core.List.{List}
-use Prim.Native.Nat.{ℕ, ◌+◌, ◌-◌, ◌/◌, ◌%◌, ◌<◌, ◌≤◌}
+use Prim.Native.Nat.{ℕ, ◌+◌, ◌/◌, ◌%◌, ◌<◌}
 use native.Mathlib.Omega.{arith}
 use native.Mathlib.Decide.{ℕ_discrete}
 use lib.Arith.{lt_of_le-ne}
 use lib.Dec.{ltb}
-use lib.ListN.{length, get_or, set, replicate, length-set, get_or-replicate}
+use lib.ListN.{get_or, set, replicate, length-set, get_or-replicate}
 use lib.Seq.{get_or-set_same, get_or-set_other}
 use borrow.Author.Tests.{ltb-true, ltb-false}
 use Rattle.model.specs.Sheet.{sheet_of}
 use Rattle.model.proofs.Lists.{by_test}
-use Rattle.balance.specs.Balance.{Surplus, symbol_at}
+use Rattle.balance.specs.Balance.{symbol_at}
 use Rattle.balance.proofs.Table.{even_there}
-use Rattle.balance.proofs.surplus.Reads as surplus-reads
-use Rattle.balance.proofs.symbol.Reads as symbol-reads
-use Rattle.shape.proofs.equations.Reads as equations-reads
 use Rattle.balance.proofs.tabulate.Goals as goal
 use Rattle.balance.proofs.tabulate.Invariants.{Filled}
 
@@ -56,8 +53,7 @@ loop-i-preserved c =
 pub returns : goal.returns
 returns c =
     let l = c.loop-i in
-    let s = sheet_of c.args.sheet.now in
-    (
+    let s = sheet_of c.args.sheet.now in (
       l.invariant.2.all,
       (λ j h. by_test (ltb j l.i)
           (λ e. l.invariant.2.there j (ltb-true j l.i e))

@@ -1,20 +1,9 @@
-use mathlib.Core.Path.{◌≡◌, refl, ◌∙◌}
+use mathlib.Core.Path.{◌≡◌}
 use mathlib.Core.List.{List}
-use Prim.Native.Nat.{ℕ, ◌+◌, ◌-◌, ◌/◌, ◌%◌, ◌<◌, ◌≤◌}
-use native.Mathlib.Omega.{arith}
-use native.Mathlib.Decide.{ℕ_discrete}
-use lib.Arith.{lt_of_le-ne}
-use lib.Dec.{ltb}
-use lib.ListN.{length, get_or, set, replicate, length-set, get_or-replicate}
-use lib.Seq.{get_or-set_same, get_or-set_other}
-use borrow.Author.Tests.{ltb-true, ltb-false}
+use Prim.Native.Nat.{ℕ, ◌-◌, ◌/◌, ◌%◌, ◌<◌, ◌≤◌}
+use lib.ListN.{length, get_or}
 use Rattle.model.specs.Sheet.{sheet_of}
-use Rattle.model.proofs.Lists.{by_test}
 use Rattle.balance.specs.Balance.{Surplus, symbol_at}
-use Rattle.balance.proofs.Table.{even_there}
-use Rattle.balance.proofs.surplus.Reads as surplus-reads
-use Rattle.balance.proofs.symbol.Reads as symbol-reads
-use Rattle.shape.proofs.equations.Reads as equations-reads
 use Rattle.balance.proofs.tabulate.Given as goal
 
 -- the first i of 56 entries are there

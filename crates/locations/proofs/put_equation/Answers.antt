@@ -178,4 +178,4 @@ pub returns : goal.returns
 returns c =
     let at-loop = c.loop-i in
     let from = start_of (known c.before.before.before.before.before) in
-    ends _ _ (rows c.before.before.before.before.before) (loop_done (lines from) (count from) (fits (rows c.before.before.before.before.before)) at-loop.invariant.1 (omega (arith, (widths-of (known c.before.before.before.before.before)).before.width.ensures.0))) at-loop.invariant.1.long
+    ends _ _ (rows c.before.before.before.before.before) (loop_done (lines from) (count from) (fits (rows c.before.before.before.before.before)) at-loop.invariant.1 (omega (arith, (widths-of (known c.before.before.before.before.before)).width-m.ensures.0))) at-loop.invariant.1.long

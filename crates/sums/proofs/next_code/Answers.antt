@@ -11,8 +11,7 @@ use mir.Val.{to_z, of_z}
 use Rattle.scan.proofs.Machine.{small-fits, small_back}
 use Rattle.scan.proofs.Terms.{wide_fits, product_fits, product_back}
 use Rattle.sums.specs.Codes.{Added}
-use Rattle.sums.proofs.next_code.Statement.{statement}
-use Rattle.sums.proofs.next_code.Tie as tie
+use Rattle.sums.proofs.next_code.Goals as goal
 
 -- the sum, and what it is above the least, as the machine has them
 module _ {first : ℕ} {low c n : ℤ} {d : ℕ} (h : Added first low c n d) where
@@ -34,43 +33,29 @@ module _ {first : ℕ} {low c n : ℤ} {d : ℕ} (h : Added first low c n d) whe
   offset_back : to_z w16 (of_z w16 (to_z w16 (of_z w16 stored) -ℤ to_z w16 (of_z w16 low))) ≡ n +ℤ c *ℤ pos d -ℤ low
   offset_back = rw offset_is (small_back w16 (n +ℤ c *ℤ pos d -ℤ low) (omega (arith, h.offset_few)))
 
-cast-result : tie.Need-overflow-cast-result
-cast-result c = wide_fits c.args.c c.args.d c.requires.coefficient_few c.requires.length_few
+pub overflow_cast-result : goal.overflow_cast-result
+overflow_cast-result c = wide_fits c.args.c c.args.d c.requires.coefficient_few c.requires.length_few
 
-cast-result-2 : tie.Need-overflow-cast-result-2
-cast-result-2 c = small-fits w16 (pos c.args.d) (omega (arith, c.requires.length_few))
+pub overflow_cast-result-2 : goal.overflow_cast-result-2
+overflow_cast-result-2 c = small-fits w16 (pos c.args.d) (omega (arith, c.requires.length_few))
 
-mul-result : tie.Need-overflow-mul-result
-mul-result c = product_fits c.args.c c.args.d c.requires.coefficient_few c.requires.length_few
+pub overflow_mul-result : goal.overflow_mul-result
+overflow_mul-result c = product_fits c.args.c c.args.d c.requires.coefficient_few c.requires.length_few
 
-add-result : tie.Need-overflow-add-result
-add-result c = rw (sum_is c.requires) (small-fits w16 (c.args.n +ℤ c.args.c *ℤ pos c.args.d) (omega (arith, sum_small c.requires)))
+pub overflow_add-result : goal.overflow_add-result
+overflow_add-result c = rw (sum_is c.requires) (small-fits w16 (c.args.n +ℤ c.args.c *ℤ pos c.args.d) (omega (arith, sum_small c.requires)))
 
-sub-result : tie.Need-overflow-sub-result
-sub-result c = rw (offset_is c.requires) (small-fits w16 (c.args.n +ℤ c.args.c *ℤ pos c.args.d -ℤ c.args.low) (omega (arith, c.requires.offset_few)))
+pub overflow_sub-result : goal.overflow_sub-result
+overflow_sub-result c = rw (offset_is c.requires) (small-fits w16 (c.args.n +ℤ c.args.c *ℤ pos c.args.d -ℤ c.args.low) (omega (arith, c.requires.offset_few)))
 
-cast-result-3 : tie.Need-overflow-cast-result-3
-cast-result-3 c = rw (offset_back c.requires) (subst (λ z. T (non_neg z)) (sym c.requires.above) tt, record { fits = omega (arith, c.requires.offset_few) })
+pub overflow_cast-result-3 : goal.overflow_cast-result-3
+overflow_cast-result-3 c = rw (offset_back c.requires) (subst (λ z. T (non_neg z)) (sym c.requires.above) tt, record { fits = omega (arith, c.requires.offset_few) })
 
-mul-result-2 : tie.Need-overflow-mul-result-2
-mul-result-2 c = rw (offset_back c.requires) (omega (arith, c.requires.offset_few))
+pub overflow_mul-result-2 : goal.overflow_mul-result-2
+overflow_mul-result-2 c = rw (offset_back c.requires) (omega (arith, c.requires.offset_few))
 
-add-result-2 : tie.Need-overflow-add-result-2
-add-result-2 c = rw (offset_back c.requires) (omega (arith, c.requires.offset_few, c.requires.at_first))
+pub overflow_add-result-2 : goal.overflow_add-result-2
+overflow_add-result-2 c = rw (offset_back c.requires) (omega (arith, c.requires.offset_few, c.requires.at_first))
 
-returns : tie.Need-returns
+pub returns : goal.returns
 returns c = rw (offset_back c.requires)
-
-pub next-code-spec : {M : Type 1} → statement M
-next-code-spec =
-    tie.close
-    (tie.spec
-    cast-result
-    cast-result-2
-    mul-result
-    add-result
-    sub-result
-    cast-result-3
-    mul-result-2
-    add-result-2
-    returns)
