@@ -1,6 +1,7 @@
 // The question of two templates of an accepted book as the bytes of a sheet: template i on the left, j on the right, j's fields numbered after i's, without
 // rules. It knows nothing of how a sheet is searched.
 #![tactic(auto)]
+
 ghost use Rattle.std.specs.Prelude.{◌≡◌, map, ◌+◌, ◌<◌, ◌≤◌, length};
 ghost use Rattle.model.specs.Lists.{All, Puts};
 ghost use Rattle.model.specs.Sheet.{encode};

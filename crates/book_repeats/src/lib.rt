@@ -1,5 +1,6 @@
 // Which templates of an accepted book are the same. It knows nothing of how two templates are asked.
 #![tactic(auto)]
+
 ghost use Rattle.std.specs.Prelude.{◌≡◌, ◌<◌, ◌≤◌, length};
 ghost use Rattle.book.specs.Book.{template, book_of, Admitted};
 ghost use Rattle.book_repeats.specs.Repeats.{same_template};

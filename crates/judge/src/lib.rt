@@ -1,6 +1,7 @@
 // What a substitution comes to on an accepted sheet: it solves it, since every equation's two words are the same and every constraint holds; or the first cause why
 // it does not.
 #![tactic(auto)]
+
 ghost use Rattle.std.specs.Prelude.{◌≡◌, ◌<◌, length};
 ghost use Rattle.model.specs.Sheet.{Accepted, sheet_of, equation, constraint};
 ghost use Rattle.model.specs.Word.{weight};

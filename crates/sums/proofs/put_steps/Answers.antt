@@ -1,0 +1,52 @@
+-- `sums::put_steps` meets its contract. The loop's invariant: the lines of the first k steps have been written. Assumes nothing.
+use Prim.Native.Nat.{◌-◌, ◌≤◌}
+use native.Mathlib.Omega.{arith}
+use Rattle.model.specs.Lists.{each, up_to}
+use Rattle.model.specs.Sheet.{sheet_of}
+use Rattle.formula.specs.Clause.{fields}
+use Rattle.model.proofs.Seams.{Written}
+use Rattle.model.proofs.Pieces.{loop_none, loop_room, loop_next, loop_done}
+use Rattle.formula.proofs.Small.{fields-few}
+use Rattle.sums.specs.Lines.{step_lines}
+use Rattle.sums.proofs.put_steps.Goals as goal
+
+pub fields-fields-requires : goal.fields-fields-requires
+fields-fields-requires c =
+    c.requires.0
+
+pub loop-k-init : goal.loop-k-init
+loop-k-init c =
+    let a = c.args in
+    (omega arith, loop_none (step_lines (sheet_of c.args.sheet.now) a.r))
+
+pub put_step-past-requires : goal.put_step-past-requires
+put_step-past-requires c =
+    let at_fields = c.fields-fields in
+    let at-loop-test = c.loop-k-test in
+    let at-loop = c.loop-k in
+    let a = c.args in
+    (c.requires.0, c.requires.1, omega (arith, at_fields.ensures, at-loop-test.true), loop_room (step_lines (sheet_of c.args.sheet.now) a.r) (fields (sheet_of c.args.sheet.now)) c.requires.2 at-loop.invariant.1 (omega (arith, at_fields.ensures, at-loop-test.true)))
+
+pub overflow_add-k : goal.overflow_add-k
+overflow_add-k c =
+    let at_fields = c.fields-fields in
+    omega (arith, at_fields.ensures, fields-few (sheet_of c.args.sheet.now) c.requires.0.1)
+
+pub loop-k-preserved : goal.loop-k-preserved
+loop-k-preserved c =
+    let at-loop = c.loop-k in
+    let at_fields = c.fields-fields in
+    let at-loop-test = c.loop-k-test in
+    let at-put-step = c.put_step-past in
+    let a = c.args in
+    (omega arith, loop_next (step_lines (sheet_of c.args.sheet.now) a.r) (fields (sheet_of c.args.sheet.now)) c.requires.2 at-loop.invariant.1 (omega (arith, at_fields.ensures, at-loop-test.true)) at-put-step.new.buf at-put-step.result at-put-step.ensures at-put-step.auto.buf)
+
+pub shape_of-buf : goal.shape_of-buf
+shape_of-buf c = c.loop-k.invariant.1.long
+
+pub returns : goal.returns
+returns c =
+    let at-loop = c.loop-k in
+    let at_fields = c.fields-fields in
+    let a = c.args in
+    loop_done (step_lines (sheet_of c.args.sheet.now) a.r) (fields (sheet_of c.args.sheet.now)) c.requires.2 at-loop.invariant.1 (omega (arith, at_fields.ensures))

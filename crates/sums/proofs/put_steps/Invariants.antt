@@ -1,0 +1,16 @@
+use Prim.Native.Nat.{◌-◌, ◌≤◌}
+use native.Mathlib.Omega.{arith}
+use Rattle.model.specs.Lists.{each, up_to}
+use Rattle.model.specs.Sheet.{sheet_of}
+use Rattle.formula.specs.Clause.{fields}
+use Rattle.model.proofs.Seams.{Written}
+use Rattle.model.proofs.Pieces.{loop_none, loop_room, loop_next, loop_done}
+use Rattle.formula.proofs.Small.{fields-few}
+use Rattle.sums.specs.Lines.{step_lines}
+use Rattle.sums.proofs.put_steps.Given as goal
+
+abbrev pub invariant-loop-k : goal.invariant-loop-k
+invariant-loop-k l = (l.k ≤ l.fields) × Written l.initial.buf l.at (each (up_to l.k) (step_lines (sheet_of l.sheet) l.r)) l.buf l.past
+
+abbrev pub decreases-loop-k : goal.decreases-loop-k
+decreases-loop-k l = l.fields - l.k
