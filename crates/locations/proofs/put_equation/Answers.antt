@@ -7,7 +7,6 @@ use lib.ListN.{length}
 use Rattle.model.specs.Lists.{each, up_to, Puts}
 use Rattle.model.specs.Sheet.{Sheet, sheet_of}
 use Rattle.formula.specs.Clause.{Start, left_cells}
-use Rattle.model.proofs.Seams.{Written}
 use Rattle.model.proofs.Pieces.{loop_none, loop_room, loop_next, loop_done}
 use Rattle.model.proofs.Writing.{Writing, joined, begin, fits, next, ends}
 use Rattle.literals.specs.Name.{line_of}
