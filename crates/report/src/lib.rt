@@ -1,6 +1,7 @@
 // The text that the programs print: the report of a clash, which is `clash`, a line for each field and a line for each pair; and the line of
 // a refusal.
 #![tactic(auto)]
+
 ghost use Rattle.std.specs.Prelude.{◌≡◌, [], ◌∷◌, ◌+◌, ◌<◌, ◌≤◌, length};
 ghost use Rattle.model.specs.Lists.{each, up_to, All, Puts};
 ghost use Rattle.model.specs.Sheet.{Accepted, sheet_of};

@@ -1,0 +1,17 @@
+use mathlib.Core.Path.{◌≡◌, sym, ap, ◌∙◌}
+use Prim.Native.Nat.{◌-◌, ◌*◌, ◌≤◌}
+use native.Mathlib.Omega.{arith}
+use lib.ListN.{length}
+use Rattle.model.specs.Lists.{each, up_to}
+use Rattle.model.specs.Sheet.{sheet_of}
+use Rattle.formula.specs.Clause.{fields}
+use Rattle.formula.proofs.Small.{fields-few}
+use Rattle.sums.specs.Lines.{step_lines}
+use Rattle.model.proofs.Keeping.{length_none, length_more}
+use Rattle.size_sum.proofs.steps_size.Given as goal
+
+abbrev pub invariant-loop-k : goal.invariant-loop-k
+invariant-loop-k l = (l.k ≤ l.fields) × (l.sum ≡ length (each (up_to l.k) (step_lines (sheet_of l.sheet) l.r))) × (l.sum ≤ l.k * 60000)
+
+abbrev pub decreases-loop-k : goal.decreases-loop-k
+decreases-loop-k l = l.fields - l.k
