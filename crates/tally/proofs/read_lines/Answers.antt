@@ -1,4 +1,5 @@
 -- `tally::read_lines` meets its contract. The loop's invariant: what is left of the text decides what all of it does, with the tally and the
+-- marks that the lines before have come to. Assumes nothing.
 use mathlib.Core.Path.{subst, ◌∙◌}
 use Prim.Native.Nat.{◌-◌}
 use native.Mathlib.Omega.{arith}

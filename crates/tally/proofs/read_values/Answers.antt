@@ -1,4 +1,5 @@
 -- `tally::read_values` meets its contract. The loop's invariant: what is left of the line decides what all of it does, with the tally and the
+-- marks that the numbers before have come to. Assumes nothing.
 use mathlib.Core.Path.{subst, ◌∙◌}
 use Prim.Native.Nat.{◌-◌}
 use native.Mathlib.Omega.{arith}
