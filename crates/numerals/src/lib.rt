@@ -1,5 +1,6 @@
 // The numbers of a solver's reply: one piece of a v line. Knows nothing of lines.
 #![tactic(auto)]
+
 ghost use Rattle.std.specs.Prelude.{◌≡◌};
 ghost use Rattle.model.specs.Lists.{pick};
 ghost use Rattle.formula.specs.Dimacs.{value_of};

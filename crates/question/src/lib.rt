@@ -2,6 +2,7 @@
 // here once; `lengths` then goes through boxes of lengths, in which the equations are walked (document 000's automaton), and so are the equations
 // reversed.
 #![tactic(auto)]
+
 ghost use Rattle.model.specs.Sheet.{sheet_of};
 ghost use Rattle.model.specs.Range.{Admitted};
 ghost use Rattle.question.specs.Ask.{Asking, Finds};

@@ -1,6 +1,7 @@
 // The cells of a sheet's equations, expanded from the templates once for all walks: one after the other, with their widths. The same of the equations with
 // each template reversed.
 #![tactic(auto)]
+
 ghost use Rattle.std.specs.Prelude.{◌≡◌, map, reverse, ◌+◌, ◌<◌, ◌≤◌, length};
 ghost use Rattle.model.specs.Lists.{All, Puts};
 ghost use Rattle.model.specs.Sheet.{sheet_of, equation, template};

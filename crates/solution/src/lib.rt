@@ -1,5 +1,6 @@
 // A solution of an accepted sheet, the first or any: letters are counted first, which can show at once that there is none; then the whole sheet is one question.
 #![tactic(auto)]
+
 ghost use Rattle.std.specs.Prelude.{◌≡◌, ℕ, ◌<◌, get_or};
 ghost use Rattle.model.specs.Sheet.{sheet_of, limit};
 ghost use Rattle.model.specs.Range.{Admitted};

@@ -1,5 +1,6 @@
 // What a sheet asks of a substitution: whether it solves the sheet, and what a template spells under it.
 #![tactic(auto)]
+
 ghost use Rattle.std.specs.Prelude.{◌≡◌, ◌<◌, length};
 ghost use Rattle.model.specs.Sheet.{Accepted, sheet_of};
 ghost use Rattle.model.specs.Filling.{filling};

@@ -1,0 +1,8 @@
+-- `sides::put_cells` meets its contract. Assumes nothing.
+use Rattle.sides.proofs.put_cells.Goals as goal
+
+pub returns-then-back : goal.returns-then-back
+returns-then-back c = rw c.if-back.true c.put_turned.ensures
+
+pub returns : goal.returns
+returns c = rw c.if-back.false c.put.ensures

@@ -1,0 +1,70 @@
+-- `sides::put_turned` meets its contract. The loop's invariant: the cells from i on have been written, the last one first. Assumes nothing.
+use mathlib.Core.Path.{◌≡◌, sym, ap, subst, ◌∙◌}
+use mathlib.Core.List.{List, [], ◌∷◌, ◌++◌, map, reverse, reverse-cons}
+use Prim.Native.Nat.{ℕ, suc, ◌+◌, ◌-◌, ◌<◌, ◌≤◌}
+use native.Mathlib.Omega.{arith}
+use lib.ListN.{length, get_or, drop, set, length-set}
+use lib.Seq.{drop-cons, drop-length}
+use Rattle.model.specs.Sheet.{sheet_of}
+use Rattle.model.proofs.Lists.{at}
+use Rattle.model.proofs.Keeping.{map-append}
+use Rattle.model.proofs.Seams.{Written, nothing, more, put_one}
+use Rattle.sides.specs.Reversal.{ByteIn, turned_byte}
+use Rattle.sides.proofs.put_turned.Goals as goal
+
+-- one turn: cell i - 1 goes behind those that are written
+module _ (T : ℕ → ℕ) (piece : List ℕ) (i : ℕ) (some : 0 < i) (inside : i ≤ length piece) where
+  abbrev here : ℕ
+  here = get_or piece (i - 1) 0
+
+  grown : map T (reverse (drop (i - 1) piece)) ≡ map T (reverse (drop i piece)) ++ (T here ∷ [])
+  grown =
+      let e : suc (i - 1) ≡ i = omega arith in
+      ap (λ (z : List ℕ). map T (reverse z)) (drop-cons piece (i - 1) 0 (omega arith) ∙ ap (λ k. here ∷ drop k piece) e)
+      ∙ ap (map T) (reverse-cons here (drop i piece))
+      ∙ map-append T (reverse (drop i piece)) (here ∷ [])
+
+  turn : (x₀ x : List ℕ) (start end : ℕ) → Written x₀ start (map T (reverse (drop i piece))) x end → end < length x₀ → Written x₀ start (map T (reverse (drop (i - 1) piece))) (set x end (T here)) (end + 1)
+  turn x₀ x start end w room =
+      subst (λ (z : List ℕ). Written x₀ start z (set x end (T here)) (end + 1)) (sym grown)
+      (more (T here ∷ []) (set x end (T here)) (end + 1) w (put_one x end (T here) (omega (arith, w.long))) (length-set x end (T here)) (omega (arith, w.past)))
+
+pub loop-i-init : goal.loop-i-init
+loop-i-init c =
+    let a = c.args in
+    (omega arith, omega arith, rw (drop-length a.piece.now) (nothing a.x.now a.at))
+
+pub bounds-piece-i : goal.bounds-piece-i
+bounds-piece-i c = omega (arith, c.loop-i.invariant.0)
+
+pub turned-requires : goal.turned-requires
+turned-requires c =
+    let at-loop = c.before.before.before in
+    (at-loop.requires.0, at (ByteIn (sheet_of at-loop.args.sheet.now)) at-loop.args.piece.now (at-loop.loop-i.i - 1) 0 at-loop.requires.1 (omega (arith, at-loop.loop-i.invariant.0)))
+
+pub bounds-x-end : goal.bounds-x-end
+bounds-x-end c =
+    let at-loop = c.before.before.before.before in
+    omega (arith, at-loop.requires.2, at-loop.loop-i.invariant.1, at-loop.loop-i.invariant.2.long)
+
+pub overflow_add-end : goal.overflow_add-end
+overflow_add-end c =
+    let at-loop = c.before.before.before.before in
+    omega (arith, at-loop.requires.2, at-loop.loop-i.invariant.1)
+
+pub loop-i-preserved : goal.loop-i-preserved
+loop-i-preserved c =
+    let at-loop = c.before.before.before.before in
+    let a = at-loop.args in
+    let l = at-loop.loop-i in
+    (omega (arith, l.invariant.0), omega (arith, l.invariant.1), rw c.turned.ensures (turn (turned_byte (sheet_of a.sheet.now)) a.piece.now l.i c.loop-i-test.true l.invariant.0 a.x.now l.x a.at l.end l.invariant.2 (omega (arith, at-loop.requires.2, l.invariant.1))))
+
+pub shape_of-x : goal.shape_of-x
+shape_of-x c = c.loop-i.invariant.2.long
+
+pub returns : goal.returns
+returns c =
+    let l = c.loop-i in
+    let e : l.i ≡ 0 = omega arith in
+    let w = rw e at l.invariant.2 in
+    (w.past, w.holds)

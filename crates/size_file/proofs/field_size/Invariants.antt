@@ -1,0 +1,15 @@
+use mathlib.Core.Path.{◌≡◌, sym, ap, ◌∙◌}
+use Prim.Native.Nat.{◌-◌, ◌*◌, ◌≤◌}
+use native.Mathlib.Omega.{arith}
+use lib.ListN.{length}
+use Rattle.model.specs.Lists.{each, up_to}
+use Rattle.model.specs.Sheet.{sheet_of, limit}
+use Rattle.rendering.specs.Lines.{place_lines, field_lines}
+use Rattle.model.proofs.Keeping.{length_none, length_more}
+use Rattle.size_file.proofs.field_size.Given as goal
+
+abbrev pub invariant-loop-c : goal.invariant-loop-c
+invariant-loop-c l = (l.c ≤ l.limit) × (l.sum ≡ length (each (up_to l.c) (place_lines (sheet_of l.sheet) l.f))) × (l.sum ≤ l.c * 1300)
+
+abbrev pub decreases-loop-c : goal.decreases-loop-c
+decreases-loop-c l = l.limit - l.c

@@ -1,0 +1,15 @@
+use mathlib.Core.Path.{◌≡◌, sym, ap, ◌∙◌}
+use mathlib.Core.List.{List}
+use Prim.Native.Nat.{ℕ, suc, ◌+◌, ◌-◌, ◌*◌, ◌≤◌}
+use native.Mathlib.Omega.{arith}
+use lib.ListN.{length}
+use Rattle.model.specs.Lists.{each, up_to}
+use Rattle.rendering.specs.Codes.{pair_lines}
+use Rattle.model.proofs.Keeping.{length_none, length_more}
+use Rattle.size_file.proofs.pairs_size.Given as goal
+
+abbrev pub invariant-loop-a : goal.invariant-loop-a
+invariant-loop-a l = (l.a ≤ l.letters + 1) × (l.sum ≡ length (each (up_to l.a) (pair_lines l.first l.letters))) × (l.sum ≤ l.a * 128)
+
+abbrev pub decreases-loop-a : goal.decreases-loop-a
+decreases-loop-a l = l.letters + 1 - l.a
