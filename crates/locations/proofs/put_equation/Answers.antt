@@ -1,4 +1,5 @@
 -- `locations::put_equation` meets its contract. The loop's invariant: after the first line, the lines of the first i rows have been written.
+-- Assumes nothing.
 use mathlib.Core.Path.{refl, ap, subst, ◌∙◌}
 use mathlib.Core.List.{List, [], ◌∷◌}
 use Prim.Native.Nat.{ℕ, suc, ◌+◌, ◌-◌, ◌*◌, ◌≤◌}
