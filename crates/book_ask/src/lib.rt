@@ -1,6 +1,7 @@
 // Whether two templates of a book clash. Their question is written as a sheet and settled, without an order, since the verdict alone counts; what was asked
 // before of the same templates is remembered.
 #![tactic(auto)]
+
 ghost use Rattle.std.specs.Prelude.{◌≡◌, ◌<◌, length};
 ghost use Rattle.model.specs.Lists.{pick};
 ghost use Rattle.book.specs.Book.{book_of, Admitted};

@@ -1,5 +1,6 @@
 // The list of a book with hours: the templates that clash and share a minute. Pairs that share none are not asked.
 #![tactic(auto)]
+
 ghost use Rattle.std.specs.Prelude.{length};
 ghost use Rattle.calls.specs.Calls.{comparing_hours, Decides};
 ghost use Rattle.book.specs.Book.{book_of, Admitted};

@@ -1,6 +1,6 @@
 -- The list as it is written, pair by pair and row by row; and which pairs a table wants. Assumes nothing.
 use mathlib.Core.Path.{◌≡◌, sym, ap, subst, ◌∙◌}
-use mathlib.Core.Bool.{Bool, false, and_false}
+use mathlib.Core.Bool.{Bool, false, and-false}
 use mathlib.Core.List.{List, [], ◌∷◌}
 use Prim.Native.Nat.{ℕ, suc, ◌+◌, ◌-◌, ◌*◌, ◌<◌, ◌≤◌}
 use native.Mathlib.Omega.{arith}
@@ -22,7 +22,7 @@ pair_none s at i j t e = let w = nothing s at in subst (λ b. Puts s at (when b 
 module _ (table : List ℕ) (k : Book) (i j : ℕ) where
   pub not_wanted : get_or table (i * 16 + j) 0 ≡ 0 → listed table k i j ≡ false
   unfolding listed wants
-  not_wanted e = rw (eq-eqb (get_or table (i * 16 + j) 0) 0 e) (and_false (clash k i j))
+  not_wanted e = rw (eq-eqb (get_or table (i * 16 + j) 0) 0 e) (and-false (clash k i j))
 
   pub wanted_clash : (get_or table (i * 16 + j) 0 ≡ 0 → ⊥) → listed table k i j ≡ clash k i j
   unfolding listed wants

@@ -1,6 +1,7 @@
 // The list of a book: which of its templates clash, each two asked by `book_ask`. A table says which pairs are wanted, so that no other is asked. The list is made in
 // a buffer of its own, so that nothing is written to the lent one before it is known to be long enough.
 #![tactic(auto)]
+
 ghost use Rattle.std.specs.Prelude.{◌≡◌, [], ◌∷◌, ◌+◌, ◌<◌, ◌≤◌, length};
 ghost use Rattle.model.specs.Lists.{when, Puts};
 ghost use Rattle.calls.specs.Calls.{listing, comparing, Decides};

@@ -1,5 +1,6 @@
 // For C: the list of a book. `engine` says what is returned and written; a refusal is returned as minus its number, and leaves what is lent.
 #![tactic(auto)]
+
 ghost use Rattle.std.specs.Prelude.{◌≡◌, length};
 ghost use Rattle.calls.specs.Calls.{comparing};
 ghost use Rattle.book_list.specs.Answer as list;

@@ -1,5 +1,6 @@
 // For C: writing a line of the clause file. `engine` says what it returns and writes; a refusal is returned as minus its number, and leaves what is lent.
 #![tactic(auto)]
+
 ghost use Rattle.std.specs.Prelude.{length};
 ghost use Rattle.calls.specs.Calls.{writing};
 ghost use Rattle.c_answer.specs.Returned.{Handed};

@@ -1,6 +1,7 @@
 // For C: counting the clause file and writing all of it. `engine` says what each returns and writes; a refusal is returned as minus its number, and leaves
 // what is lent.
 #![tactic(auto)]
+
 ghost use Rattle.std.specs.Prelude.{◌≡◌, length};
 ghost use Rattle.calls.specs.Calls.{counting, filing};
 ghost use Rattle.c_answer.specs.Returned.{returned, lent_after, Handed};

@@ -1,5 +1,6 @@
 // For C: the list of a book with hours. `engine` says what is returned and written; a refusal is returned as minus its number, and leaves what is lent.
 #![tactic(auto)]
+
 ghost use Rattle.std.specs.Prelude.{length};
 ghost use Rattle.calls.specs.Calls.{comparing_hours};
 ghost use Rattle.c_answer.specs.Returned.{Decided};

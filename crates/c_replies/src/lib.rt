@@ -1,6 +1,7 @@
 // For C: reading a solver's reply. `engine` says what is returned and written; a refusal is returned as minus its number, and leaves what is
 // lent.
 #![tactic(auto)]
+
 ghost use Rattle.std.specs.Prelude.{length};
 ghost use Rattle.calls.specs.Calls.{replying};
 ghost use Rattle.c_answer.specs.Returned.{HandedOver};

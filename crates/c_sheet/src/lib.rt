@@ -1,6 +1,7 @@
 // For C: reading a sheet, checking a filling, spelling a template. `engine` says what each returns and writes; a refusal is returned as minus
 // its number, and leaves what is lent.
 #![tactic(auto)]
+
 ghost use Rattle.std.specs.Prelude.{◌≡◌, length};
 ghost use Rattle.calls.specs.Calls.{reading, checking, spelling};
 ghost use Rattle.c_answer.specs.Returned.{returned, lent_after, Handed, Explained};

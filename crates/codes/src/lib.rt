@@ -1,5 +1,6 @@
 // The code of a literal: twice the variable's number, and one more for its negation; 0 for none.
 #![tactic(auto)]
+
 ghost use Rattle.std.specs.Prelude.{◌≡◌, ◌+◌, ◌*◌, ◌<◌, ◌≤◌, length};
 ghost use Rattle.model.specs.Sheet.{sheet_of, template};
 ghost use Rattle.model.specs.Range.{Admitted};

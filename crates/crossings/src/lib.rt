@@ -1,6 +1,7 @@
 // The lines of one location in the clause file, written into a lent buffer by the codes of the location and of its two cells: nothing here knows of
 // sheets. A function that writes returns the offset past what it has written.
 #![tactic(auto)]
+
 ghost use Rattle.std.specs.Prelude.{◌+◌, ◌<◌, ◌≤◌, length};
 ghost use Rattle.model.specs.Lists.{Puts};
 ghost use Rattle.formula.specs.Kind.{SideIn};

@@ -1,5 +1,6 @@
 // A solver's reply, read without trusting it: what it says of the fields' places, and the substitution that is handed over if it solves the sheet.
 #![tactic(auto)]
+
 ghost use Rattle.std.specs.Prelude.{◌≡◌, ◌*◌, ◌≤◌, length, replicate};
 ghost use Rattle.model.specs.Sheet.{sheet_of};
 ghost use Rattle.formula.specs.Numbering.{variables};

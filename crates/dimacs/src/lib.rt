@@ -1,5 +1,6 @@
 // The lines of a clause file as bytes: numbers in decimal, literals, clauses, and the first line. Each is written into a lent buffer.
 #![tactic(auto)]
+
 ghost use Rattle.std.specs.Prelude.{[], ◌∷◌, ◌+◌, ◌<◌, ◌≤◌, length};
 ghost use Rattle.model.specs.Lists.{each, Puts};
 ghost use Rattle.formula.specs.Dimacs.{decimal, problem_line};

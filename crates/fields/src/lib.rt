@@ -1,5 +1,6 @@
 // A substitution (document 01: a filling) in memory, six fields of eight letter places and a length by value, and as bytes: read, and written.
 #![tactic(auto)]
+
 ghost use Rattle.std.specs.Prelude.{◌≡◌, [], ◌++◌, ◌+◌, ◌*◌, ◌≤◌, length, take, drop};
 ghost use Rattle.model.specs.Lists.{All};
 ghost use Rattle.model.specs.Sheet.{got, rest, Accepted, sheet_of};

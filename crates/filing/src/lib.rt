@@ -1,5 +1,6 @@
 // The clause file of a sheet as a whole: how many variables, clauses and bytes it has, and all its lines at once.
 #![tactic(auto)]
+
 ghost use Rattle.std.specs.Prelude.{◌≡◌, length};
 ghost use Rattle.model.specs.Sheet.{sheet_of};
 ghost use Rattle.model.specs.Range.{Admitted};

@@ -1,6 +1,7 @@
 // Of which kind a location of an equation is, by what stands on its two sides, and how many clauses each kind has: document 02's No. 2. A row of locations
 // is counted from how many of each kind it has.
 #![tactic(auto)]
+
 ghost use Rattle.std.specs.Prelude.{◌≡◌, ℕ, ◌+◌, ◌*◌, ◌<◌, ◌≤◌, get_or};
 ghost use Rattle.formula.specs.Kind.{used, at_letter, at_field, kind, kind_count};
 ghost use Rattle.formula.specs.Count.{location_count};

@@ -1,7 +1,7 @@
 -- What a tally and marks mean after a text's lines: the tests of the text that the tally decides, and the assignment that the marks hold.
 -- Assumes nothing.
 use mathlib.Core.Path.{◌≡◌, refl, sym, ap, ap₂, ◌∙◌}
-use mathlib.Core.Bool.{Bool, true, false, not, ◌&&◌, ◌||◌, and_true, and_false, or-true, or_false, or_assoc, and_comm}
+use mathlib.Core.Bool.{Bool, true, false, not, ◌&&◌, ◌||◌, and-true, and-false, or-true, or-false, or_assoc, and_comm}
 use mathlib.Core.List.{List, [], ◌∷◌, ◌++◌, map}
 use Prim.Native.Nat.{ℕ, suc, ◌<◌}
 use native.Mathlib.Omega.{arith}
@@ -25,8 +25,8 @@ or_swap false true c d = sym (or-true c)
 or_swap false false c d = refl
 
 and_pick : (a b : Bool) → (a && b) ≡ (b && pick a true false)
-and_pick true b = sym (and_true b)
-and_pick false b = sym (and_false b)
+and_pick true b = sym (and-true b)
+and_pick false b = sym (and-false b)
 
 leb_not : (m n : ℕ) → not (leb (suc m) n) ≡ leb n m
 leb_not m n = by_test (leb n m)
@@ -42,7 +42,7 @@ length-all st (z ∷ zs) = length-all (after_number st z) zs ∙ marked-long st.
 truth-all : (st : State) (zs : List ℤ) (k : ℕ) → k < length st.marks
     → truth (after_numbers st zs).marks k ≡ (truth st.marks k || any (is_plus k) zs)
 unfolding after_numbers after_number any
-truth-all st [] k h = sym (or_false (truth st.marks k))
+truth-all st [] k h = sym (or-false (truth st.marks k))
 truth-all st (z ∷ zs) k h =
     let kept = marked-long st.marks (nat_abs z) (is_pos z) in
     truth-all (after_number st z) zs k (omega arith)
@@ -52,7 +52,7 @@ truth-all st (z ∷ zs) k h =
 above-all : (count : ℕ) (st : State) (zs : List ℤ) → length st.marks ≡ suc count
     → not (after_numbers st zs).tally.above ≡ (not st.tally.above && in_count count zs)
 unfolding after_numbers after_number noted in_count all
-above-all count st [] e = sym (and_true (not st.tally.above))
+above-all count st [] e = sym (and-true (not st.tally.above))
 above-all count st (z ∷ zs) e =
     above-all count (after_number st z) zs (marked-long st.marks (nat_abs z) (is_pos z) ∙ e)
     ∙ order st.tally.above (leb (length st.marks) (nat_abs z)) (in_count count zs)
@@ -93,7 +93,7 @@ any-marked m count n plus (z ∷ zs) e h =
 twice_all : (count : ℕ) (st : State) (zs : List ℤ) → length st.marks ≡ suc count → in_count count zs ≡ true
     → not (after_numbers st zs).tally.twice ≡ (not st.tally.twice && (given_once zs && not (any (is_marked st.marks) (map nat_abs zs))))
 unfolding after_numbers after_number noted in_count all distinct any
-twice_all count st [] e h = sym (and_true (not st.tally.twice))
+twice_all count st [] e h = sym (and-true (not st.tally.twice))
 twice_all count st (z ∷ zs) e h =
     let n : ℕ = nat_abs z in
     let ns : List ℕ = map nat_abs zs in
@@ -104,9 +104,9 @@ twice_all count st (z ∷ zs) e h =
   where
     order : (t a d b e : Bool) → (not (t || a) && (d && not (b || e))) ≡ (not t && ((not e && d) && not (a || b)))
     order true a d b e = refl
-    order false true d b e = sym (and_false (not e && d))
-    order false false d true e = and_false d ∙ sym (and_false (not e && d))
-    order false false d false e = and_comm d (not e) ∙ sym (and_true (not e && d))
+    order false true d b e = sym (and-false (not e && d))
+    order false false d true e = and-false d ∙ sym (and-false (not e && d))
+    order false false d false e = and_comm d (not e) ∙ sym (and-true (not e && d))
 
 -- What a state says of numbers. The lines' numbers alone change it.
 abbrev seen : State → State
@@ -162,7 +162,7 @@ heard_lines st (l ∷ ls) =
     let t : Tally = st.tally in
     let n : ℕ = length (keep status_line ls) in
     heard_lines (after_line st l) ls ∙ by_test (status_line l)
-    (λ s. rw (s, eqb-suc-zero n, eqb-suc-suc n 0, and_true (eqb n 0)) (second t.again (not t.early) t.status (eqb n 0)))
+    (λ s. rw (s, eqb-suc-zero n, eqb-suc-suc n 0, and-true (eqb n 0)) (second t.again (not t.early) t.status (eqb n 0)))
     (λ s. by_test (value_line l)
     (λ v. rw (s, v)
     (heard_numbers (record { tally = with_values t; marks = st.marks }) (line_numbers l) (eqb n 0) (one_status ls)
@@ -171,14 +171,14 @@ heard_lines st (l ∷ ls) =
   where
     second : (a b s c : Bool) → ((not (a || s) && b) && c) ≡ ((not a && b) && pick s false c)
     second true b s c = refl
-    second false b true c = sym (and_false b)
+    second false b true c = sym (and-false b)
     second false b false c = refl
 
     first : (a e s c d f : Bool) → ((not a && not (e || not s)) && pick s c d) ≡ ((not a && not e) && pick s c (f && false))
     first true e s c d f = refl
     first false true s c d f = refl
     first false false true c d f = refl
-    first false false false c d f = sym (and_false f)
+    first false false false c d f = sym (and-false f)
 
 -- All of it, of a text that is read with no mark set.
 none-marked : (count : ℕ) (zs : List ℤ) → in_count count zs ≡ true → any (is_marked (replicate (suc count) 0)) (map nat_abs zs) ≡ false
@@ -214,7 +214,7 @@ means count t =
       once_is = λ low.
           let fits = counted ∙ ap not low in
           sym (ap (λ s. not s.tally.twice) is ∙ twice_all count start (given t) size fits
-          ∙ ap (λ b. given_once (given t) && not b) (none-marked count (given t) fits) ∙ and_true (given_once (given t)));
+          ∙ ap (λ b. given_once (given t) && not b) (none-marked count (given t) fits) ∙ and-true (given_once (given t)));
       truth_is = λ k h. ap (λ s. truth s.marks k) is ∙ truth-all start (given t) k (omega arith)
           ∙ ap (λ w. eqb w 1 || any (is_plus k) (given t)) (get_or-replicate {A = ℕ} (suc count) k 0 0 h);
     }

@@ -1,6 +1,7 @@
 // Whether the text of a solver's reply lists an assignment. Nothing here knows of a sheet; the text's numbers are judged by the lent marks, one for
 // each number from 0 on.
 #![tactic(auto)]
+
 ghost use Rattle.std.specs.Prelude.{◌≡◌, ◌<◌, ◌≤◌, length, replicate};
 ghost use Rattle.listing.specs.Answer.{number_of, Form};
 

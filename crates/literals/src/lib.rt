@@ -1,5 +1,6 @@
 // A clause by its name, its literals as codes (twice the variable's number, and one more for its negation; 0 for none), and its line.
 #![tactic(auto)]
+
 ghost use Rattle.std.specs.Prelude.{◌≡◌, ◌+◌, ◌-◌, ◌*◌, ◌<◌, ◌≤◌, ltb, length, pos, ◌+ℤ◌, ◌*ℤ◌};
 ghost use Rattle.model.specs.Lists.{Puts};
 ghost use Rattle.model.specs.Sheet.{sheet_of, limit, constraint, coefficient};

@@ -1,6 +1,7 @@
 // Finds the clause of a number, counted from 0, among those of an equation: whole rows of locations, then whole locations, are skipped by their
 // counts.
 #![tactic(auto)]
+
 ghost use Rattle.std.specs.Prelude.{◌≡◌, ◌+◌, ◌<◌, ◌≤◌, length, get_or};
 ghost use Rattle.model.specs.Lists.{total};
 ghost use Rattle.model.specs.Sheet.{sheet_of};

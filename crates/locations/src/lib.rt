@@ -1,6 +1,7 @@
 // The lines of an equation's clauses in the clause file, written into a lent buffer location by location. The codes of an equation's cells and of its first
 // location are worked out once, and those of its lines follow from them by adding. A function that writes returns the offset past what it has written.
 #![tactic(auto)]
+
 ghost use Rattle.std.specs.Prelude.{◌≡◌, map, ◌+◌, ◌<◌, ◌≤◌, length};
 ghost use Rattle.model.specs.Lists.{up_to, Puts};
 ghost use Rattle.model.specs.Sheet.{sheet_of, template};

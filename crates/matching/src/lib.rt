@@ -1,6 +1,7 @@
 // Lines of the clause file that go through the values of a place, written into a lent buffer by the codes of their literals: nothing here knows
 // of sheets. A function that writes returns the offset past what it has written.
 #![tactic(auto)]
+
 ghost use Rattle.std.specs.Prelude.{◌+◌, ◌≤◌, length};
 ghost use Rattle.model.specs.Lists.{each, up_to, Puts};
 ghost use Rattle.dimacs.specs.Codes.{large_code};

@@ -1,6 +1,7 @@
 // The variables of an accepted sheet's clauses: their numbers, and how many there are. All K come first, then S, then T. Of a constraint's sums also
 // the least, how far they go, and how many its limit admits.
 #![tactic(auto)]
+
 ghost use Rattle.std.specs.Prelude.{◌≡◌, ◌+◌, ◌<◌, ◌≤◌, length, nat_abs};
 ghost use Rattle.model.specs.Lists.{total};
 ghost use Rattle.model.specs.Sheet.{sheet_of, constraint};

@@ -1,6 +1,7 @@
 // What an accepted sheet says, by number. Every function here requires an accepted sheet and a number of a part that it has. It knows nothing
 // of how a sheet comes to be accepted, nor of what it means.
 #![tactic(auto)]
+
 ghost use Rattle.std.specs.Prelude.{◌≡◌, map, ◌++◌, ◌<◌, ◌≤◌, length, drop};
 ghost use Rattle.model.specs.Lists.{each, Holds};
 ghost use Rattle.model.specs.Sheet.{symbol_byte, encode_equation, encode_constraint, Accepted, sheet_of, letter_of};

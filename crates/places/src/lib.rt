@@ -1,5 +1,6 @@
 // What marks say of the fields' places: which values are true at each, and the substitution that they spell.
 #![tactic(auto)]
+
 ghost use Rattle.std.specs.Prelude.{◌≡◌, map, ◌<◌, ◌≤◌, eqb, length};
 ghost use Rattle.model.specs.Lists.{all, up_to};
 ghost use Rattle.model.specs.Sheet.{sheet_of};

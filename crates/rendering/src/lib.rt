@@ -1,6 +1,7 @@
 // The whole clause file of an accepted sheet, written into a lent buffer part by part. A function that writes returns the offset past what it has
 // written.
 #![tactic(auto)]
+
 ghost use Rattle.std.specs.Prelude.{suc, ◌+◌, ◌<◌, ◌≤◌, length};
 ghost use Rattle.model.specs.Lists.{each, up_to, Puts};
 ghost use Rattle.model.specs.Sheet.{sheet_of};

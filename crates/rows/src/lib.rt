@@ -1,5 +1,6 @@
 // A row of bytes of one role, read from an offset on: to its end, or to the first fault. Knows nothing of what rows a sheet has.
 #![tactic(auto)]
+
 ghost use Rattle.std.specs.Prelude.{◌≡◌, ◌+◌, ◌≤◌, length, drop};
 ghost use Rattle.model.specs.Sheet.{letter_byte, template_byte, coefficient_byte, passes, refusal_of, rest};
 ghost use Rattle.model.specs.Sheet as model;

@@ -1,5 +1,6 @@
 // Bytes and stretches of them, and where a sheet's header has what. Knows nothing of rows, nor of what a sheet means.
 #![tactic(auto)]
+
 mod bytes;
 
 pub use bytes::{find, in_range, same, signed_byte, signed_pair, starts_with, stretch, wide};

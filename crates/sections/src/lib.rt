@@ -1,6 +1,7 @@
 // The walk through a sheet's bytes after its header: to its end, or to the first fault. Knows nothing of the header's rules, nor
 // of what a sheet means.
 #![tactic(auto)]
+
 ghost use Rattle.std.specs.Prelude.{◌≡◌, map, ◌+◌, ◌<◌, ◌≤◌, leb, length, take, drop};
 ghost use Rattle.model.specs.Sheet.{symbol_of, cells_of, width, rest, times};
 ghost use Rattle.model.specs.Sheet as model;

@@ -1,5 +1,6 @@
 // The shape of an accepted sheet: its counts and limits as wide numbers, and its templates as cells, a byte for each.
 #![tactic(auto)]
+
 ghost use Rattle.std.specs.Prelude.{◌≡◌, map, ◌+◌, ◌<◌, ◌≤◌, length};
 ghost use Rattle.model.specs.Lists.{All, up_to, Puts};
 ghost use Rattle.model.specs.Sheet.{symbol_of, sheet_of, template};

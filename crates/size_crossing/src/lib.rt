@@ -1,5 +1,6 @@
 // How many bytes the lines of one location have in the clause file: the lines that `crossings` writes, by the same codes, and nothing is written.
 #![tactic(auto)]
+
 ghost use Rattle.std.specs.Prelude.{◌≡◌, ◌<◌, ◌≤◌, length};
 ghost use Rattle.formula.specs.Kind.{at_field, SideIn};
 ghost use Rattle.shape.specs.Bytes.{side_of};

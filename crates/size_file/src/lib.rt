@@ -1,5 +1,6 @@
 // How many bytes the clause file of an accepted sheet has: document 02's No. 4. It is found part by part, as `rendering` writes the file, and no line is written.
 #![tactic(auto)]
+
 ghost use Rattle.std.specs.Prelude.{◌≡◌, suc, ◌<◌, ◌≤◌, length};
 ghost use Rattle.model.specs.Lists.{each, up_to};
 ghost use Rattle.model.specs.Sheet.{sheet_of};

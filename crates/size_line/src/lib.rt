@@ -1,5 +1,6 @@
 // How many bytes a line of the clause file has, by the codes of its literals, and several lines at once: nothing is written, and nothing here knows of sheets.
 #![tactic(auto)]
+
 ghost use Rattle.std.specs.Prelude.{◌≡◌, ◌+◌, ◌*◌, ◌<◌, ◌≤◌, length};
 ghost use Rattle.model.specs.Lists.{each, up_to, total};
 ghost use Rattle.formula.specs.Dimacs.{decimal, problem_line};

@@ -1,6 +1,7 @@
 // How many bytes the lines of an equation have in the clause file, location by location: the lines that `locations` writes, by the same codes, and nothing is
 // written.
 #![tactic(auto)]
+
 ghost use Rattle.std.specs.Prelude.{◌≡◌, ℕ, ◌<◌, ◌≤◌, length, get_or};
 ghost use Rattle.model.specs.Sheet.{sheet_of};
 ghost use Rattle.model.specs.Range.{Admitted};

@@ -1,6 +1,7 @@
 // How many bytes the lines of a constraint have in the clause file. The sums of a step are numbered in a row, and so are those that a length of its field makes of
 // them: all lines with that length are measured at once.
 #![tactic(auto)]
+
 ghost use Rattle.std.specs.Prelude.{◌≡◌, suc, ◌*◌, ◌<◌, ◌≤◌, pos, nat_abs, ◌+ℤ◌, length};
 ghost use Rattle.model.specs.Lists.{each, up_to, total};
 ghost use Rattle.model.specs.Sheet.{sheet_of, constraint};

@@ -2,6 +2,7 @@
 // first blank are worked out once, and those of its lines follow from them by adding. A function that writes returns the offset past what it has
 // written.
 #![tactic(auto)]
+
 ghost use Rattle.std.specs.Prelude.{◌≡◌, ℕ, suc, ◌+◌, ◌-◌, ◌*◌, ◌<◌, ◌≤◌, ltb, pos, nat_abs, ◌+ℤ◌, ◌-ℤ◌, ◌*ℤ◌, length};
 ghost use Rattle.model.specs.Lists.{pick, each, up_to, Puts};
 ghost use Rattle.model.specs.Sheet.{sheet_of};

@@ -1,6 +1,6 @@
 -- One number noted in the tally and in the marks, and what the marks say after it. Assumes nothing.
 use mathlib.Core.Path.{◌≡◌, refl, sym, ap, ◌∙◌}
-use mathlib.Core.Bool.{Bool, true, false, not, ◌&&◌, ◌||◌, and_true, and_false, or-true, or_false}
+use mathlib.Core.Bool.{Bool, true, false, not, ◌&&◌, ◌||◌, and-true, and-false, or-true, or-false}
 use mathlib.Core.List.{List}
 use Prim.Native.Nat.{ℕ, suc, ◌<◌, ◌≤◌}
 use lib.Dec.{eqb}
@@ -21,12 +21,12 @@ module _ (m : List ℕ) (t : Tally) (n : ℕ) where
       → record { status = t.status; again = t.again; early = t.early; after = a; above = true; twice = t.twice } ≡ noted m t n
   unfolding noted
   noted-above a e h =
-      rw (e, get_or-eq_default m 0 h, le-leb _ _ h, or_false t.twice, or_right t.above {b = true} refl)
+      rw (e, get_or-eq_default m 0 h, le-leb _ _ h, or-false t.twice, or_right t.above {b = true} refl)
 
   pub noted_here : (a b : Bool) → a ≡ (t.after || is_marked m 0) → b ≡ (t.twice || is_marked m n) → n < length m
       → record { status = t.status; again = t.again; early = t.early; after = a; above = t.above; twice = b } ≡ noted m t n
   unfolding noted
-  noted_here a b e g h = rw (e, g, lt-leb _ _ h, or_false t.above)
+  noted_here a b e g h = rw (e, g, lt-leb _ _ h, or-false t.above)
 
   pub marked-above : (plus : Bool) → length m ≤ n → m ≡ marked m n plus
   unfolding marked
@@ -48,7 +48,7 @@ pub marked_one : (m : List ℕ) (n k : ℕ) (plus : Bool) → k < length m → i
 marked_one m n k plus h = ap (λ w. not (eqb w 0)) (mark-at m n k plus h) ∙ one (eqb n k) plus (get_or m k 0)
   where
     one : (b p : Bool) (w : ℕ) → not (eqb (pick b (mark_of w p) w) 0) ≡ (not (eqb w 0) || b)
-    one false p w = sym (or_false (not (eqb w 0)))
+    one false p w = sym (or-false (not (eqb w 0)))
     one true true w = sym (or-true (not (eqb w 0)))
     one true false w = by_test (eqb w 0) (λ t. rw t) (λ t. rw (t, t))
 
@@ -58,10 +58,10 @@ truth_one m z k h =
     ap (λ w. eqb w 1) (mark-at m (nat_abs z) k (is_pos z) h) ∙ one (eqb (nat_abs z) k) (is_pos z) (get_or m k 0) ∙ ap (λ b. truth m k || b) (plus z)
   where
     one : (b p : Bool) (w : ℕ) → eqb (pick b (mark_of w p) w) 1 ≡ (eqb w 1 || (b && p))
-    one false p w = sym (or_false (eqb w 1))
+    one false p w = sym (or-false (eqb w 1))
     one true true w = sym (or-true (eqb w 1))
-    one true false w = by_test (eqb w 0) (λ t. let e = eqb-true w 0 t in rw (t, e)) (λ t. rw t (sym (or_false (eqb w 1))))
+    one true false w = by_test (eqb w 0) (λ t. let e = eqb-true w 0 t in rw (t, e)) (λ t. rw t (sym (or-false (eqb w 1))))
 
     plus : (x : ℤ) → (eqb (nat_abs x) k && is_pos x) ≡ is_plus k x
-    plus (pos n) = and_true (eqb n k)
-    plus (negsuc n) = and_false (eqb (suc n) k)
+    plus (pos n) = and-true (eqb n k)
+    plus (negsuc n) = and-false (eqb (suc n) k)

@@ -1,6 +1,7 @@
 // What the text of a solver's reply comes to: its lines, its numbers, and a mark for each number that it lists. Nothing here knows of a sheet; the
 // text's numbers are noted in the lent marks, one for each number from 0 on.
 #![tactic(auto)]
+
 ghost use Rattle.std.specs.Prelude.{◌≡◌, ◌||◌, ◌<◌, ◌≤◌, length};
 ghost use Rattle.tally.specs.Tally.{mark_of, noted, marked, ReadValues, ReadLine, ReadLines};
 

@@ -1,7 +1,6 @@
 -- `c_answer::minus` meets its contract. Assumes nothing.
 use native.Mathlib.Omega.{arith}
 use Rattle.c_answer.proofs.Negated.{minus_fits, minus_is}
-use borrow.Author.Rules.{rules}
 use Rattle.c_answer.proofs.minus.Goals as goal
 
 pub overflow_sub-result : goal.overflow_sub-result

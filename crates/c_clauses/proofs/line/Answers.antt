@@ -13,7 +13,6 @@ use Rattle.parts.proofs.Known.{lent_bytes}
 use Rattle.encoding.specs.Answer.{number_of, lined}
 use Rattle.c_answer.specs.Returned.{returned_number}
 use Rattle.c_answer.proofs.Negated.{minus_told}
-use borrow.Author.Rules.{rules}
 use Rattle.c_clauses.proofs.line.Goals as goal
 use Rattle.c_clauses.proofs.line.Lts as lts
 use Rattle.c_clauses.proofs.line.Reads as reads

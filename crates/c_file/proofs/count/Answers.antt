@@ -4,7 +4,6 @@ use Rattle.calls.specs.Calls.{counting, refused, finished}
 use Rattle.sheet.specs.Answer.{number_of}
 use Rattle.filing.specs.Answer.{three_counts, counted}
 use Rattle.c_answer.proofs.Negated.{minus_stored}
-use borrow.Author.Rules.{rules}
 use Rattle.c_file.proofs.count.Goals as goal
 
 pub returns-in-Refused : goal.returns-in-Refused

@@ -14,7 +14,6 @@ use Rattle.parts.proofs.Known.{lent_bytes}
 use Rattle.filing.specs.Answer.{number_of, filed}
 use Rattle.c_answer.specs.Returned.{returned_number}
 use Rattle.c_answer.proofs.Negated.{minus_told}
-use borrow.Author.Rules.{rules}
 use Rattle.c_file.proofs.file.Goals as goal
 use Rattle.c_file.proofs.file.Lts as lts
 use Rattle.c_file.proofs.file.Reads as reads

@@ -1,13 +1,8 @@
-use mathlib.Core.Path.{◌≡◌, sym, ap, ◌∙◌}
-use Prim.Native.Nat.{suc, ◌+◌, ◌-◌, ◌*◌, ◌≤◌}
-use native.Mathlib.Omega.{arith}
-use lib.ListN.{length}
+use mathlib.Core.Path.{◌≡◌}
+use Prim.Native.Nat.{◌+◌, ◌-◌, ◌*◌, ◌≤◌}
 use Rattle.model.specs.Lists.{total}
 use Rattle.model.specs.Sheet.{sheet_of}
-use Rattle.formula.specs.Clause.{left_cells}
 use Rattle.formula.specs.Count.{row_count}
-use Rattle.model.proofs.Keeping.{total-more, total-none}
-use Rattle.counting.proofs.Laws.{survey_few, row-found, equation-known}
 use Rattle.counting.proofs.equation_count.Given as goal
 
 abbrev pub invariant-loop-i : goal.invariant-loop-i

@@ -1,8 +1,7 @@
 -- `counting::not_both_count` meets its contract. The loop's invariant: the sum is the total of the first a parts. Assumes nothing.
 use mathlib.Core.Path.{◌≡◌}
-use Prim.Native.Nat.{ℕ, suc, ◌+◌, ◌-◌, ◌*◌, ◌≤◌}
+use Prim.Native.Nat.{suc, ◌-◌}
 use native.Mathlib.Omega.{arith}
-use Rattle.model.specs.Lists.{total}
 use Rattle.model.proofs.Keeping.{total-more, total-none}
 use Rattle.counting.proofs.not_both_count.Goals as goal
 use Rattle.counting.proofs.not_both_count.Invariants.{part}

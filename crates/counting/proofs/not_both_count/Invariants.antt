@@ -1,8 +1,6 @@
 use mathlib.Core.Path.{◌≡◌}
-use Prim.Native.Nat.{ℕ, suc, ◌+◌, ◌-◌, ◌*◌, ◌≤◌}
-use native.Mathlib.Omega.{arith}
+use Prim.Native.Nat.{ℕ, ◌+◌, ◌-◌, ◌*◌, ◌≤◌}
 use Rattle.model.specs.Lists.{total}
-use Rattle.model.proofs.Keeping.{total-more, total-none}
 use Rattle.counting.proofs.not_both_count.Given as goal
 
 abbrev pub part : ℕ → ℕ → ℕ

@@ -2,7 +2,6 @@
 use mathlib.Core.Path.{sym, ap, subst, ◌∙◌}
 use Prim.Native.Nat.{◌<◌}
 use native.Mathlib.Omega.{arith}
-use borrow.Author.Rules.{rules}
 use Rattle.model.specs.Sheet.{sheet_of}
 use Rattle.formula.specs.Count.{parts, part_counts}
 use Rattle.shape.specs.Name.{section_of}

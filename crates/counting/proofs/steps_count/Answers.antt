@@ -1,9 +1,8 @@
 -- `counting::steps_count` meets its contract. The loop's invariant: the sum is the total of the first k steps. Assumes nothing.
 use mathlib.Core.Path.{◌≡◌}
-use Prim.Native.Nat.{◌-◌, ◌*◌, ◌≤◌}
+use Prim.Native.Nat.{◌-◌}
 use native.Mathlib.Omega.{arith}
 use lib.ListN.{length}
-use Rattle.model.specs.Lists.{total}
 use Rattle.model.specs.Sheet.{sheet_of}
 use Rattle.formula.specs.Count.{step_count}
 use Rattle.model.proofs.Keeping.{total-more, total-none}

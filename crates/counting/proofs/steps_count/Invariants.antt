@@ -1,11 +1,8 @@
 use mathlib.Core.Path.{◌≡◌}
 use Prim.Native.Nat.{◌-◌, ◌*◌, ◌≤◌}
-use native.Mathlib.Omega.{arith}
-use lib.ListN.{length}
 use Rattle.model.specs.Lists.{total}
 use Rattle.model.specs.Sheet.{sheet_of}
 use Rattle.formula.specs.Count.{step_count}
-use Rattle.model.proofs.Keeping.{total-more, total-none}
 use Rattle.counting.proofs.steps_count.Given as goal
 
 abbrev pub invariant-loop-k : goal.invariant-loop-k

@@ -1,6 +1,5 @@
 -- `counting::survey` meets its contract. Assumes nothing.
 use native.Mathlib.Omega.{arith}
-use borrow.Author.Rules.{rules}
 use Rattle.model.specs.Sheet.{sheet_of}
 use Rattle.counting.proofs.Laws.{bytes_cells, counted-right}
 use Rattle.counting.proofs.survey.Goals as goal

@@ -4,7 +4,6 @@ use mathlib.Core.List.{List, [], ◌∷◌, ◌++◌}
 use Prim.Native.Nat.{ℕ, ◌+◌, ◌-◌, ◌*◌, ◌<◌, ◌≤◌}
 use native.Mathlib.Omega.{arith}
 use lib.ListN.{length, length-append}
-use borrow.Author.Rules.{rules}
 use Rattle.model.specs.Lists.{each, up_to}
 use Rattle.formula.specs.Kind.{Side, used, at_letter, at_field, SideIn}
 use Rattle.shape.specs.Bytes.{side_of}

@@ -1,5 +1,5 @@
 -- `dimacs::print` meets its contract: a number of few figures by itself, another one its tenth and then the last figure. Assumes nothing.
-use Rattle.std.proofs.Common.{ℕ, ◌<◌, ◌≤◌, arith}
+use Rattle.std.proofs.Common.{arith}
 use Rattle.dimacs.proofs.Laws.{more_figures}
 use Rattle.model.proofs.Writing.{fits, next, stored}
 use Rattle.dimacs.proofs.+print.Goals as goal

@@ -3,7 +3,6 @@ use mathlib.Core.Path.{refl}
 use mathlib.Core.List.{List, [], ◌∷◌}
 use Prim.Native.Nat.{ℕ}
 use native.Mathlib.Omega.{arith}
-use borrow.Author.Rules.{rules}
 use Rattle.model.specs.Lists.{each}
 use Rattle.dimacs.specs.Codes.{code_bytes, codes_line}
 use Rattle.model.proofs.Writing.{Writing, joined, begin, fits, next, ends}

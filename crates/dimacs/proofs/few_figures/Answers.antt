@@ -1,6 +1,5 @@
 -- `dimacs::few_figures` meets its contract, by the number of figures. Assumes nothing.
 use native.Mathlib.Omega.{arith}
-use borrow.Author.Rules.{rules}
 use Rattle.dimacs.proofs.Laws.{one_figure, two_figures, three_figures, four_figures}
 use Rattle.model.proofs.Writing.{fits, next, ends}
 use Rattle.dimacs.proofs.few_figures.Goals as goal

@@ -1,7 +1,6 @@
 -- `dimacs::figure` meets its contract: a single store. Assumes nothing.
 use Prim.Native.Nat.{◌+◌}
 use native.Mathlib.Omega.{arith}
-use borrow.Author.Rules.{rules}
 use Rattle.model.proofs.Seams.{put_one}
 use Rattle.dimacs.proofs.figure.Goals as goal
 

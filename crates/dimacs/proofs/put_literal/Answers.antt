@@ -1,7 +1,6 @@
 -- `dimacs::put_literal` meets its contract: nothing, or the number and a space, or a minus, the number and a space. Assumes nothing.
 use mathlib.Core.List.{List, [], ◌∷◌}
 use Prim.Native.Nat.{ℕ, ◌/◌}
-use borrow.Author.Rules.{rules}
 use Rattle.formula.specs.Dimacs.{decimal}
 use Rattle.dimacs.specs.Codes.{code_bytes}
 use Rattle.dimacs.proofs.Laws.{no_literal, even_literal, odd_literal}

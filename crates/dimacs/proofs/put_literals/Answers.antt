@@ -1,8 +1,8 @@
 -- `dimacs::put_literals` meets its contract. The loop's invariant: the first i literals have been written. Assumes nothing.
 use mathlib.Core.Path.{◌≡◌, sym, subst}
-use Prim.Native.Nat.{◌-◌, ◌≤◌}
+use Prim.Native.Nat.{◌-◌}
 use native.Mathlib.Omega.{arith}
-use lib.ListN.{length, get_or, take}
+use lib.ListN.{get_or, take}
 use lib.Seq.{take_all}
 use Rattle.model.specs.Lists.{each}
 use Rattle.model.proofs.Lists.{each_next}

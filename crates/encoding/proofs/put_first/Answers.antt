@@ -1,7 +1,6 @@
 -- `encoding::put_first` meets its contract. Assumes nothing.
 use mathlib.Core.Path.{◌≡◌, subst}
 use native.Mathlib.Omega.{arith}
-use borrow.Author.Rules.{rules}
 use Rattle.model.specs.Lists.{Puts}
 use Rattle.model.specs.Sheet.{sheet_of}
 use Rattle.formula.specs.Dimacs.{problem_line, line}

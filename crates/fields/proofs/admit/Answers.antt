@@ -1,11 +1,10 @@
 -- `fields::admit` meets its contract. The loop's invariant: the fields from f on leave what the whole filling leaves. Assumes nothing.
 use mathlib.Core.Path.{◌≡◌, sym, ap, ◌∙◌}
-use Prim.Native.Nat.{◌-◌, ◌*◌, ◌<◌, ◌≤◌}
+use Prim.Native.Nat.{◌-◌, ◌*◌, ◌<◌}
 use native.Mathlib.Omega.{arith}
-use borrow.Author.Rules.{rules}
 use lib.ListN.{length, drop, length-drop}
 use Rattle.model.specs.Sheet.{Counts, rest, limit, sheet_of}
-use Rattle.model.specs.Filling.{a_text, texts, filling}
+use Rattle.model.specs.Filling.{a_text}
 use Rattle.model.proofs.Lists.{at}
 use Rattle.model.proofs.Seams.{tail_lent}
 use Rattle.model.proofs.Fillings.{filling_size, filling_starts, texts_stop, texts_go, texts_done}

@@ -1,14 +1,8 @@
-use mathlib.Core.Path.{◌≡◌, sym, ap, ◌∙◌}
-use Prim.Native.Nat.{◌-◌, ◌*◌, ◌<◌, ◌≤◌}
-use native.Mathlib.Omega.{arith}
-use borrow.Author.Rules.{rules}
-use lib.ListN.{length, drop, length-drop}
-use Rattle.model.specs.Sheet.{Counts, rest, limit, sheet_of}
-use Rattle.model.specs.Filling.{a_text, texts, filling}
-use Rattle.model.proofs.Lists.{at}
-use Rattle.model.proofs.Seams.{tail_lent}
-use Rattle.model.proofs.Fillings.{filling_size, filling_starts, texts_stop, texts_go, texts_done}
-use Rattle.fields.specs.Answer.{left}
+use mathlib.Core.Path.{◌≡◌}
+use Prim.Native.Nat.{◌-◌, ◌*◌, ◌≤◌}
+use lib.ListN.{length, drop}
+use Rattle.model.specs.Sheet.{rest, sheet_of}
+use Rattle.model.specs.Filling.{texts, filling}
 use Rattle.fields.proofs.admit.Given as goal
 
 abbrev pub invariant-loop-f : goal.invariant-loop-f

@@ -1,12 +1,8 @@
 -- `fields::check_field` meets its contract. The loop's invariant: the places from c on leave what the whole field leaves. Assumes nothing.
-use mathlib.Core.Path.{◌≡◌, sym, ◌∙◌}
-use mathlib.Core.Logic.{⊎_elim}
-use Prim.Native.Nat.{◌+◌, ◌-◌, ◌<◌, ◌≤◌}
+use mathlib.Core.Path.{sym, ◌∙◌}
+use Prim.Native.Nat.{◌+◌, ◌-◌, ◌<◌}
 use native.Mathlib.Omega.{arith}
-use borrow.Author.Rules.{rules}
-use lib.ListN.{length, drop}
-use Rattle.model.specs.Sheet.{rest}
-use Rattle.model.specs.Filling.{places, a_text}
+use lib.ListN.{length}
 use Rattle.model.proofs.Fillings.{text-long, text_starts, letter_stops, letter_goes, past_stops, past_goes, places_done}
 use Rattle.fields.proofs.check_field.Goals as goal
 use Rattle.fields.proofs.check_field.Goals.{then-c-len+else-x-letters, else-c-len+else-x}
@@ -53,8 +49,8 @@ loop-c-preserved c =
     let more = at-loop-test.true in
     let there : k + 1 < length b = omega arith in
     elim c.if-c-len.branch [
-      then-c-len+else-x-letters w ↦ (omega arith, at-loop.invariant.1 ∙ letter_goes a.letters n 8 k b more there w.if-c-len.true w.if-x-letters.false)
-    | else-c-len+else-x w ↦ (omega arith, at-loop.invariant.1 ∙ past_goes a.letters n 8 k b more there w.if-c-len.false w.if-x.false)
+      | then-c-len+else-x-letters w ↦ (omega arith, at-loop.invariant.1 ∙ letter_goes a.letters n 8 k b more there w.if-c-len.true w.if-x-letters.false)
+      | else-c-len+else-x w ↦ (omega arith, at-loop.invariant.1 ∙ past_goes a.letters n 8 k b more there w.if-c-len.false w.if-x.false)
     ]
 
 pub returns : goal.returns

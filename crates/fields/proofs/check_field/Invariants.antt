@@ -1,12 +1,8 @@
-use mathlib.Core.Path.{◌≡◌, sym, ◌∙◌}
-use mathlib.Core.Logic.{⊎_elim}
-use Prim.Native.Nat.{◌+◌, ◌-◌, ◌<◌, ◌≤◌}
-use native.Mathlib.Omega.{arith}
-use borrow.Author.Rules.{rules}
-use lib.ListN.{length, drop}
+use mathlib.Core.Path.{◌≡◌}
+use Prim.Native.Nat.{◌+◌, ◌-◌, ◌≤◌}
+use lib.ListN.{drop}
 use Rattle.model.specs.Sheet.{rest}
 use Rattle.model.specs.Filling.{places, a_text}
-use Rattle.model.proofs.Fillings.{text-long, text_starts, letter_stops, letter_goes, past_stops, past_goes, places_done}
 use Rattle.fields.proofs.check_field.Given as goal
 
 abbrev pub invariant-loop-c : goal.invariant-loop-c

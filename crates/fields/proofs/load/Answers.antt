@@ -2,7 +2,6 @@
 use mathlib.Core.Path.{◌≡◌, ap, subst, sym, ◌∙◌}
 use mathlib.Core.List.{[]}
 use lib.ListN.{length}
-use borrow.Author.Rules.{rules}
 use Rattle.model.specs.Sheet.{Counts, got, sheet_of}
 use Rattle.model.specs.Filling.{filling}
 use Rattle.parts.proofs.Known.{lent_bytes}

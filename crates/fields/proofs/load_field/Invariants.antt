@@ -1,12 +1,8 @@
-use mathlib.Core.Path.{◌≡◌, refl}
-use mathlib.Core.List.{List, ◌++◌, append-nil}
-use Prim.Native.Nat.{ℕ, ◌+◌, ◌-◌, ◌≤◌}
-use native.Mathlib.Omega.{arith}
-use lib.ListN.{get_or, drop, replicate}
-use lib.Seq.{get_or-drop}
-use Rattle.model.proofs.Seams.{store_next}
-use Rattle.fields.specs.Memory.{firsts, field_at}
-use Rattle.fields.proofs.Laws.{length-firsts, firsts_more}
+use mathlib.Core.Path.{◌≡◌}
+use mathlib.Core.List.{◌++◌}
+use Prim.Native.Nat.{◌+◌, ◌-◌, ◌≤◌}
+use lib.ListN.{drop}
+use Rattle.fields.specs.Memory.{firsts}
 use Rattle.fields.proofs.load_field.Given as goal
 
 abbrev pub invariant-loop-c : goal.invariant-loop-c

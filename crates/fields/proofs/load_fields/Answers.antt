@@ -1,9 +1,8 @@
 -- `fields::load_fields` meets its contract. The loop's invariant: the first f fields are loaded. Assumes nothing.
 use mathlib.Core.Path.{◌≡◌, refl}
-use Prim.Native.Nat.{◌-◌, ◌≤◌}
+use Prim.Native.Nat.{◌-◌}
 use native.Mathlib.Numerals.{add-one}
 use native.Mathlib.Omega.{arith}
-use borrow.Author.Rules.{rules}
 use Rattle.fields.specs.Memory.{loaded}
 use Rattle.fields.proofs.load_fields.Goals as goal
 

@@ -1,9 +1,8 @@
 -- `fields::store` meets its contract. The loop's invariant: the bytes of the first f fields stand at the front, what follows is as before. Assumes nothing.
 use mathlib.Core.Path.{◌≡◌, refl}
-use mathlib.Core.List.{◌++◌}
-use Prim.Native.Nat.{◌-◌, ◌*◌, ◌≤◌}
+use Prim.Native.Nat.{◌-◌}
 use native.Mathlib.Omega.{arith}
-use lib.ListN.{length, drop, length-append, length-drop}
+use lib.ListN.{length-append, length-drop}
 use Rattle.model.proofs.Seams.{tail_lent}
 use Rattle.fields.proofs.Laws.{memory_bytes, length_memory, memory_encodes, store_turn}
 use Rattle.fields.proofs.store.Goals as goal

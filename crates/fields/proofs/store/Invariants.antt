@@ -1,10 +1,8 @@
-use mathlib.Core.Path.{◌≡◌, refl}
+use mathlib.Core.Path.{◌≡◌}
 use mathlib.Core.List.{◌++◌}
 use Prim.Native.Nat.{◌-◌, ◌*◌, ◌≤◌}
-use native.Mathlib.Omega.{arith}
-use lib.ListN.{length, drop, length-append, length-drop}
-use Rattle.model.proofs.Seams.{tail_lent}
-use Rattle.fields.proofs.Laws.{memory_bytes, length_memory, memory_encodes, store_turn}
+use lib.ListN.{length, drop}
+use Rattle.fields.proofs.Laws.{memory_bytes}
 use Rattle.fields.proofs.store.Given as goal
 
 abbrev pub invariant-loop-f : goal.invariant-loop-f

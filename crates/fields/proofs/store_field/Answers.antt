@@ -1,10 +1,8 @@
 -- `fields::store_field` meets its contract. The loop's invariant: the length and the first c letters stand at the front, what follows is as before. Assumes nothing.
 use mathlib.Core.Path.{◌≡◌, ap, ◌∙◌}
-use mathlib.Core.List.{◌∷◌, ◌++◌}
-use Prim.Native.Nat.{◌+◌, ◌-◌, ◌<◌, ◌≤◌}
+use Prim.Native.Nat.{◌-◌, ◌<◌}
 use native.Mathlib.Omega.{arith}
-use borrow.Author.Rules.{rules}
-use lib.ListN.{length, drop, get_or, set, length-set}
+use lib.ListN.{length, get_or, set, length-set}
 use lib.Seq.{get_or-set_same, drop-set-lt, drop-cons}
 use Rattle.fields.specs.Memory.{firsts, field_bytes}
 use Rattle.fields.proofs.Laws.{letters-length, letter_turn}

@@ -1,12 +1,8 @@
-use mathlib.Core.Path.{◌≡◌, ap, ◌∙◌}
+use mathlib.Core.Path.{◌≡◌}
 use mathlib.Core.List.{◌∷◌, ◌++◌}
-use Prim.Native.Nat.{◌+◌, ◌-◌, ◌<◌, ◌≤◌}
-use native.Mathlib.Omega.{arith}
-use borrow.Author.Rules.{rules}
-use lib.ListN.{length, drop, get_or, set, length-set}
-use lib.Seq.{get_or-set_same, drop-set-lt, drop-cons}
-use Rattle.fields.specs.Memory.{firsts, field_bytes}
-use Rattle.fields.proofs.Laws.{letters-length, letter_turn}
+use Prim.Native.Nat.{◌+◌, ◌-◌, ◌≤◌}
+use lib.ListN.{drop, get_or}
+use Rattle.fields.specs.Memory.{firsts}
 use Rattle.fields.proofs.store_field.Given as goal
 
 abbrev pub invariant-loop-c : goal.invariant-loop-c

@@ -1,6 +1,5 @@
 -- `filing::count` meets its contract: the sheet's refusal, or its counts. Assumes nothing.
 use mathlib.Core.Path.{sym, ap, subst, ◌∙◌}
-use borrow.Author.Rules.{rules}
 use Rattle.calls.specs.Calls.{finished}
 use Rattle.calls.proofs.Operations.{counting_sheet, counting_counts}
 use Rattle.sheet.specs.Answer.{number_of, answer, IsAdmitted}

@@ -13,7 +13,6 @@ use Rattle.calls.proofs.Operations.{leaves_all, leaves_text}
 use Rattle.calls.proofs.Filing.{filing_sheet, filing-room, filing-file}
 use Rattle.model.proofs.Seams.{placed_front}
 use Rattle.sheet.specs.Answer.{number_of, answer, IsAdmitted}
-use borrow.Author.Rules.{rules}
 use Rattle.filing.proofs.write_file.Goals as goal
 use Rattle.filing.proofs.write_file.Lts as lts
 use Rattle.filing.proofs.write_file.Reads as reads

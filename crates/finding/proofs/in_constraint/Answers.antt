@@ -1,8 +1,7 @@
 -- `finding::in_constraint` meets its contract. The loop's invariant: rest is the number among the clauses of the steps from field k on. Assumes nothing.
-use mathlib.Core.Path.{◌≡◌, subst}
-use Prim.Native.Nat.{◌+◌, ◌-◌, ◌<◌, ◌≤◌}
+use mathlib.Core.Path.{subst}
+use Prim.Native.Nat.{◌-◌, ◌<◌}
 use native.Mathlib.Omega.{arith}
-use Rattle.model.specs.Lists.{total}
 use Rattle.model.specs.Sheet.{sheet_of}
 use Rattle.formula.specs.Count.{step_count}
 use Rattle.formula.proofs.Small.{fields-few}

@@ -1,12 +1,8 @@
-use mathlib.Core.Path.{◌≡◌, subst}
-use Prim.Native.Nat.{◌+◌, ◌-◌, ◌<◌, ◌≤◌}
-use native.Mathlib.Omega.{arith}
+use mathlib.Core.Path.{◌≡◌}
+use Prim.Native.Nat.{◌+◌, ◌-◌, ◌≤◌}
 use Rattle.model.specs.Lists.{total}
 use Rattle.model.specs.Sheet.{sheet_of}
 use Rattle.formula.specs.Count.{step_count}
-use Rattle.formula.proofs.Small.{fields-few}
-use Rattle.locating.proofs.Laws.{at_first, at_next}
-use Rattle.finding.proofs.Laws.{zero_found, sum_below, add_found, bound_below, bound_small, bound_found}
 use Rattle.finding.proofs.in_constraint.Given as goal
 
 abbrev pub invariant-loop-k : goal.invariant-loop-k

@@ -1,8 +1,7 @@
 -- `finding::in_field` meets its contract. The loop's invariant: rest is the number among the pairs of a and the values after it. Assumes nothing.
-use mathlib.Core.Path.{◌≡◌, refl}
-use Prim.Native.Nat.{◌+◌, ◌-◌, ◌%◌, ◌≤◌}
+use mathlib.Core.Path.{refl}
+use Prim.Native.Nat.{◌+◌, ◌-◌, ◌%◌}
 use native.Mathlib.Omega.{arith}
-use Rattle.model.specs.Lists.{total}
 use Rattle.model.specs.Sheet.{sheet_of}
 use Rattle.formula.proofs.Small.{letters-few}
 use Rattle.locating.proofs.Laws.{at_first, at_next}

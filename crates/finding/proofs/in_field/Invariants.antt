@@ -1,11 +1,6 @@
-use mathlib.Core.Path.{◌≡◌, refl}
+use mathlib.Core.Path.{◌≡◌}
 use Prim.Native.Nat.{◌+◌, ◌-◌, ◌%◌, ◌≤◌}
-use native.Mathlib.Omega.{arith}
 use Rattle.model.specs.Lists.{total}
-use Rattle.model.specs.Sheet.{sheet_of}
-use Rattle.formula.proofs.Small.{letters-few}
-use Rattle.locating.proofs.Laws.{at_first, at_next}
-use Rattle.finding.proofs.Laws.{some-found, not_both_found, tail_found}
 use Rattle.finding.proofs.in_field.Given as goal
 
 abbrev pub invariant-loop-a : goal.invariant-loop-a

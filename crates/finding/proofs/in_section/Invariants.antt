@@ -1,12 +1,9 @@
-use mathlib.Core.Path.{◌≡◌, subst}
-use Prim.Native.Nat.{◌+◌, ◌-◌, ◌<◌, ◌≤◌}
-use native.Mathlib.Omega.{arith}
+use mathlib.Core.Path.{◌≡◌}
+use Prim.Native.Nat.{◌+◌, ◌-◌, ◌≤◌}
 use Rattle.model.specs.Lists.{total}
 use Rattle.model.specs.Sheet.{sheet_of}
-use Rattle.formula.specs.Count.{parts, part_counts, section_start}
-use Rattle.model.proofs.Keeping.{total-fits}
+use Rattle.formula.specs.Count.{parts, part_counts}
 use Rattle.shape.specs.Name.{section_of}
-use Rattle.locating.proofs.Laws.{at_first, at_next, same_number}
 use Rattle.finding.proofs.in_section.Given as goal
 
 abbrev pub invariant-loop-i : goal.invariant-loop-i

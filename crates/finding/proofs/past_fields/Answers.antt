@@ -1,6 +1,5 @@
 -- `finding::past_fields` meets its contract: the equations' clauses, and then the constraints'. Assumes nothing.
 use mathlib.Core.Path.{subst}
-use borrow.Author.Rules.{rules}
 use lib.ListN.{length}
 use Rattle.model.specs.Lists.{total}
 use Rattle.model.specs.Sheet.{sheet_of}

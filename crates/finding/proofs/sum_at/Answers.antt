@@ -1,5 +1,4 @@
 -- `finding::sum_at` meets its contract. Assumes nothing.
-use borrow.Author.Rules.{rules}
 use Rattle.model.specs.Sheet.{sheet_of}
 use Rattle.numbering.proofs.Laws.{number_fits, add_fits, add_back}
 use Rattle.finding.proofs.sum_at.Goals as goal

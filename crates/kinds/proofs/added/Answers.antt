@@ -1,7 +1,6 @@
 -- `kinds::added` meets its contract. Assumes nothing.
 use Prim.Native.Nat.{◌<◌}
 use native.Mathlib.Omega.{arith}
-use borrow.Author.Rules.{rules}
 use Rattle.kinds.proofs.Laws.{letter_added, place_added}
 use Rattle.kinds.proofs.added.Goals as goal
 

@@ -1,5 +1,5 @@
 -- `kinds::census_of` meets its contract. The loop's invariant: the census of the first j cells. Assumes nothing.
-use Prim.Native.Nat.{◌-◌, ◌≤◌}
+use Prim.Native.Nat.{◌-◌}
 use mathlib.Core.Path.{subst}
 use native.Mathlib.Omega.{arith}
 use Rattle.shape.proofs.Sides.{says_used}

@@ -1,9 +1,5 @@
 use Prim.Native.Nat.{◌-◌, ◌≤◌}
-use mathlib.Core.Path.{subst}
-use native.Mathlib.Omega.{arith}
-use Rattle.shape.proofs.Sides.{says_used}
 use Rattle.kinds.specs.Census.{Counted}
-use Rattle.kinds.proofs.Laws.{none-counted, more-counted, counted-few}
 use Rattle.kinds.proofs.census_of.Given as goal
 
 abbrev pub invariant-loop-j : goal.invariant-loop-j

@@ -1,6 +1,5 @@
 -- `kinds::kind_at` meets its contract. Assumes nothing.
 use mathlib.Core.Path.{sym, ap, ap₂, ◌∙◌}
-use borrow.Author.Rules.{rules}
 use Rattle.formula.specs.Kind.{kind}
 use Rattle.shape.specs.Bytes.{side_of}
 use Rattle.shape.proofs.Sides.{says_used}

@@ -1,7 +1,6 @@
 -- `kinds::kind_count` meets its contract: the request's lines. Assumes nothing.
 use mathlib.Core.Path.{sym, ap}
 use native.Mathlib.Omega.{arith}
-use borrow.Author.Rules.{rules}
 use Rattle.formula.specs.Kind.{kind_count}
 use Rattle.kinds.specs.Name.{kind_of}
 use Rattle.kinds.proofs.kind_count.Goals as goal

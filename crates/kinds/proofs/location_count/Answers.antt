@@ -1,6 +1,5 @@
 -- `kinds::location_count` meets its contract. Assumes nothing.
 use mathlib.Core.Path.{ap, ◌∙◌}
-use borrow.Author.Rules.{rules}
 use Rattle.formula.specs.Kind.{kind_count}
 use Rattle.kinds.proofs.location_count.Goals as goal
 

@@ -1,6 +1,5 @@
 -- `kinds::once_more` meets its contract. Assumes nothing.
 use native.Mathlib.Omega.{arith}
-use borrow.Author.Rules.{rules}
 use Rattle.kinds.proofs.Laws.{set_more}
 use Rattle.kinds.proofs.once_more.Goals as goal
 

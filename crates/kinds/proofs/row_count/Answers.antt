@@ -1,6 +1,5 @@
 -- `kinds::row_count_lem` meets its contract, by what stands on the left. Assumes nothing.
 use mathlib.Core.Path.{sym, ap, ◌∙◌}
-use borrow.Author.Rules.{rules}
 use Rattle.shape.proofs.Sides.{says_used, says_letter, says_field}
 use Rattle.kinds.specs.Census.{row_of}
 use Rattle.kinds.proofs.row_count.Goals as goal

@@ -7,7 +7,7 @@ use Rattle.formula.specs.Clause.{K, terms, blank}
 use Rattle.formula.specs.Numbering.{number}
 use Rattle.formula.proofs.Small.{limit-small}
 use Rattle.codes.specs.Nine.{nine}
-use Rattle.codes.proofs.Laws.{place_code_lem, same-nine}
+use Rattle.codes.proofs.Laws.{same-nine}
 use Rattle.literals.proofs.blank_tail.Goals as goal
 
 pub letters-letters-requires : goal.letters-letters-requires

@@ -5,7 +5,6 @@ use borrow.Author.Tests.{lt-ltb, le-ltb}
 use Rattle.model.specs.Sheet.{sheet_of, limit}
 use Rattle.formula.specs.Clause.{K}
 use Rattle.formula.specs.Numbering.{number}
-use Rattle.codes.proofs.Laws.{place_code_lem}
 use Rattle.literals.proofs.longer.Goals as goal
 
 pub limit-requires : goal.limit-requires

@@ -3,7 +3,7 @@ use mathlib.Core.Path.{refl}
 use native.Mathlib.Omega.{arith}
 use Rattle.formula.specs.Clause.{terms}
 use Rattle.codes.specs.Nine.{nine}
-use Rattle.codes.proofs.Laws.{place_code_lem, same-nine}
+use Rattle.codes.proofs.Laws.{same-nine}
 use Rattle.literals.proofs.not_both.Goals as goal
 
 pub place_code-x-requires : goal.place_code-x-requires

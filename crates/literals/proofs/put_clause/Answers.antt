@@ -2,7 +2,6 @@
 use mathlib.Core.Path.{ap, subst, ◌∙◌}
 use native.Mathlib.Omega.{arith}
 use lib.ListN.{length}
-use borrow.Author.Rules.{rules}
 use Rattle.model.specs.Lists.{Puts}
 use Rattle.model.specs.Sheet.{sheet_of}
 use Rattle.dimacs.specs.Codes.{codes_line}

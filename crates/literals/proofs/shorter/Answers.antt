@@ -6,7 +6,6 @@ use borrow.Author.Tests.{lt-ltb}
 use Rattle.model.specs.Sheet.{sheet_of}
 use Rattle.formula.specs.Clause.{K}
 use Rattle.formula.specs.Numbering.{number}
-use Rattle.codes.proofs.Laws.{place_code_lem}
 use Rattle.literals.proofs.shorter.Goals as goal
 
 pub returns-then-d-eq0 : goal.returns-then-d-eq0

@@ -1,9 +1,9 @@
 -- `literals::some_value` meets its contract. Assumes nothing.
 use mathlib.Core.Path.{◌≡◌, refl, ◌∙◌}
-use mathlib.Core.List.{◌++◌, map}
+use mathlib.Core.List.{map}
 use Prim.Native.Nat.{suc, ◌+◌, ◌-◌, ◌*◌, ◌≤◌}
 use native.Mathlib.Omega.{arith}
-use lib.ListN.{drop, replicate, length-map}
+use lib.ListN.{replicate, length-map}
 use Rattle.model.specs.Lists.{up_to, from}
 use Rattle.model.specs.Sheet.{sheet_of}
 use Rattle.formula.specs.Clause.{blank}

@@ -3,7 +3,6 @@ use mathlib.Core.Path.{◌≡◌, refl, subst}
 use Prim.Native.Nat.{ℕ, ◌-◌, ◌<◌}
 use native.Mathlib.Omega.{arith}
 use lib.ListN.{get_or}
-use borrow.Author.Rules.{rules}
 use Rattle.formula.specs.Clause.{ClauseId, Match, none}
 use Rattle.formula.specs.Kind.{Side, at_letter, at_field, SideIn}
 use Rattle.formula.specs.Count.{standing, location_count}

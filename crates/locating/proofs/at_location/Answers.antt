@@ -3,7 +3,6 @@ use mathlib.Core.Path.{◌≡◌, refl, ap, subst, ◌∙◌}
 use Prim.Native.Nat.{ℕ, ◌<◌}
 use native.Mathlib.Omega.{arith}
 use lib.ListN.{get_or}
-use borrow.Author.Rules.{rules}
 use Rattle.formula.specs.Clause.{ClauseId, Match, none}
 use Rattle.formula.specs.Kind.{Side, used, at_letter, at_field}
 use Rattle.formula.specs.Count.{standing, location_count}

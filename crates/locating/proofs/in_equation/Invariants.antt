@@ -1,14 +1,8 @@
-use mathlib.Core.Path.{◌≡◌, ap, subst, ◌∙◌}
-use Prim.Native.Nat.{suc, ◌+◌, ◌-◌, ◌<◌, ◌≤◌}
-use native.Mathlib.Omega.{arith}
-use lib.ListN.{length, get_or}
+use mathlib.Core.Path.{◌≡◌}
+use Prim.Native.Nat.{◌+◌, ◌-◌, ◌≤◌}
 use Rattle.model.specs.Lists.{total}
 use Rattle.model.specs.Sheet.{sheet_of}
-use Rattle.formula.specs.Clause.{left_cells}
-use Rattle.formula.specs.Count.{row_count, equation_start}
-use Rattle.formula.proofs.Small.{letters-few}
-use Rattle.counting.proofs.Laws.{survey_few, row-found, equation-known}
-use Rattle.locating.proofs.Laws.{at_first, at_next, never_past, same_number, start-found}
+use Rattle.formula.specs.Count.{row_count}
 use Rattle.locating.proofs.in_equation.Given as goal
 
 abbrev pub invariant-loop-i : goal.invariant-loop-i

@@ -1,9 +1,8 @@
 -- `locating::in_row` meets its contract. The loop's invariant: rest is the number among the clauses of the locations from j on. Assumes nothing.
 use mathlib.Core.Path.{◌≡◌, subst, ◌∙◌}
-use Prim.Native.Nat.{suc, ◌+◌, ◌-◌, ◌<◌, ◌≤◌}
+use Prim.Native.Nat.{suc, ◌-◌, ◌<◌}
 use native.Mathlib.Omega.{arith}
 use lib.ListN.{length}
-use Rattle.model.specs.Lists.{total}
 use Rattle.model.specs.Sheet.{sheet_of}
 use Rattle.formula.specs.Clause.{right_cells}
 use Rattle.formula.specs.Count.{location_size}

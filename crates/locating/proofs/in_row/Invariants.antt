@@ -1,13 +1,8 @@
-use mathlib.Core.Path.{◌≡◌, subst, ◌∙◌}
-use Prim.Native.Nat.{suc, ◌+◌, ◌-◌, ◌<◌, ◌≤◌}
-use native.Mathlib.Omega.{arith}
-use lib.ListN.{length}
+use mathlib.Core.Path.{◌≡◌}
+use Prim.Native.Nat.{◌+◌, ◌-◌, ◌≤◌}
 use Rattle.model.specs.Lists.{total}
 use Rattle.model.specs.Sheet.{sheet_of}
-use Rattle.formula.specs.Clause.{right_cells}
 use Rattle.formula.specs.Count.{location_size}
-use Rattle.formula.proofs.Small.{letters-few}
-use Rattle.locating.proofs.Laws.{at_first, at_next, never_past, location_known, sides-known, location_found}
 use Rattle.locating.proofs.in_row.Given as goal
 
 abbrev pub invariant-loop-j : goal.invariant-loop-j

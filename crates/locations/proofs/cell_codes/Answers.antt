@@ -1,7 +1,7 @@
 -- `locations::cell_codes` meets its contract. The loop's invariant: the first i codes have been stored. Assumes nothing.
 use mathlib.Core.Path.{◌≡◌, refl, ap, ◌∙◌}
 use mathlib.Core.List.{◌++◌, map, append-nil}
-use Prim.Native.Nat.{ℕ, ◌-◌, ◌≤◌}
+use Prim.Native.Nat.{ℕ, ◌-◌}
 use native.Mathlib.Omega.{arith}
 use lib.ListN.{replicate, drop, length-map}
 use Rattle.model.specs.Lists.{up_to, from}

@@ -1,13 +1,10 @@
-use mathlib.Core.Path.{◌≡◌, refl, ap, ◌∙◌}
-use mathlib.Core.List.{◌++◌, map, append-nil}
-use Prim.Native.Nat.{ℕ, ◌-◌, ◌≤◌}
-use native.Mathlib.Omega.{arith}
-use lib.ListN.{replicate, drop, length-map}
-use Rattle.model.specs.Lists.{up_to, from}
+use mathlib.Core.Path.{◌≡◌}
+use mathlib.Core.List.{◌++◌, map}
+use Prim.Native.Nat.{◌-◌, ◌≤◌}
+use lib.ListN.{replicate, drop}
+use Rattle.model.specs.Lists.{up_to}
 use Rattle.model.specs.Sheet.{sheet_of, template}
 use Rattle.model.specs.Cells.{cells}
-use Rattle.model.proofs.Keeping.{map_next, length_from}
-use Rattle.model.proofs.Seams.{store_next}
 use Rattle.codes.specs.Cell.{cell_code}
 use Rattle.locations.proofs.cell_codes.Given as goal
 

@@ -1,4 +1,5 @@
 -- `locations::put_equation` meets its contract. The loop's invariant: after the first line, the lines of the first i rows have been written.
+-- Assumes nothing.
 use mathlib.Core.Path.{refl, ap, subst, ◌∙◌}
 use mathlib.Core.List.{List, [], ◌∷◌}
 use Prim.Native.Nat.{ℕ, suc, ◌+◌, ◌-◌, ◌*◌, ◌≤◌}
@@ -7,7 +8,6 @@ use lib.ListN.{length}
 use Rattle.model.specs.Lists.{each, up_to, Puts}
 use Rattle.model.specs.Sheet.{Sheet, sheet_of}
 use Rattle.formula.specs.Clause.{Start, left_cells}
-use Rattle.model.proofs.Seams.{Written}
 use Rattle.model.proofs.Pieces.{loop_none, loop_room, loop_next, loop_done}
 use Rattle.model.proofs.Writing.{Writing, joined, begin, fits, next, ends}
 use Rattle.literals.specs.Name.{line_of}

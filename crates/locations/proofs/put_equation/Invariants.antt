@@ -1,18 +1,8 @@
-use mathlib.Core.Path.{refl, ap, subst, ◌∙◌}
-use mathlib.Core.List.{List, [], ◌∷◌}
-use Prim.Native.Nat.{ℕ, suc, ◌+◌, ◌-◌, ◌*◌, ◌≤◌}
-use native.Mathlib.Omega.{arith}
-use lib.ListN.{length}
-use Rattle.model.specs.Lists.{each, up_to, Puts}
-use Rattle.model.specs.Sheet.{Sheet, sheet_of}
-use Rattle.formula.specs.Clause.{Start, left_cells}
+use Prim.Native.Nat.{◌+◌, ◌-◌, ◌≤◌}
+use Rattle.model.specs.Lists.{each, up_to}
+use Rattle.model.specs.Sheet.{sheet_of}
 use Rattle.model.proofs.Seams.{Written}
-use Rattle.model.proofs.Pieces.{loop_none, loop_room, loop_next, loop_done}
-use Rattle.model.proofs.Writing.{Writing, joined, begin, fits, next, ends}
-use Rattle.literals.specs.Name.{line_of}
-use Rattle.locations.specs.Lines.{row_lines, equation_lines}
-use Rattle.dimacs.specs.Codes.{most_code}
-use Rattle.locations.proofs.Rows.{Surveyed, row-few, row_told}
+use Rattle.locations.specs.Lines.{row_lines}
 use Rattle.locations.proofs.put_equation.Given as goal
 
 abbrev pub invariant-loop-i : goal.invariant-loop-i

@@ -4,7 +4,6 @@ use Prim.Native.Nat.{ℕ, ◌+◌, ◌-◌, ◌*◌, ◌≤◌}
 use native.Mathlib.Omega.{arith}
 use lib.ListN.{length, get_or}
 use Rattle.model.specs.Lists.{each, up_to}
-use Rattle.model.proofs.Seams.{Written}
 use Rattle.model.proofs.Pieces.{loop_none, loop_room, loop_next, loop_done}
 use Rattle.shape.specs.Bytes.{side_of}
 use Rattle.dimacs.specs.Codes.{large_code}

@@ -1,14 +1,9 @@
-use mathlib.Core.List.{List}
-use Prim.Native.Nat.{ℕ, ◌+◌, ◌-◌, ◌*◌, ◌≤◌}
-use native.Mathlib.Omega.{arith}
-use lib.ListN.{length, get_or}
+use Prim.Native.Nat.{◌+◌, ◌-◌, ◌*◌, ◌≤◌}
+use lib.ListN.{get_or}
 use Rattle.model.specs.Lists.{each, up_to}
 use Rattle.model.proofs.Seams.{Written}
-use Rattle.model.proofs.Pieces.{loop_none, loop_room, loop_next, loop_done}
 use Rattle.shape.specs.Bytes.{side_of}
-use Rattle.dimacs.specs.Codes.{large_code}
 use Rattle.crossings.specs.Codes.{cross_lines}
-use Rattle.locations.specs.Codes.{row_of}
 use Rattle.locations.proofs.put_row.Given as goal
 
 abbrev pub invariant-loop-j : goal.invariant-loop-j

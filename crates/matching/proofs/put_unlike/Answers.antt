@@ -1,9 +1,6 @@
 -- `matching::put_unlike` meets its contract. The loop's invariant: the first k lines have been written. Assumes nothing.
-use Prim.Native.Nat.{◌-◌, ◌≤◌}
+use Prim.Native.Nat.{◌-◌}
 use native.Mathlib.Omega.{arith}
-use borrow.Author.Rules.{rules}
-use Rattle.model.specs.Lists.{each, up_to}
-use Rattle.model.proofs.Seams.{Written}
 use Rattle.model.proofs.Pieces.{loop_none, loop_room, loop_next, loop_done}
 use Rattle.matching.specs.Codes.{unlike_line}
 use Rattle.matching.proofs.put_unlike.Goals as goal

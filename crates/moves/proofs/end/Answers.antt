@@ -5,7 +5,7 @@ use native.Mathlib.Omega.{arith}
 use Rattle.model.specs.Sheet.{sheet_of}
 use Rattle.formula.specs.Clause.{terms, left_cells, right_cells}
 use Rattle.codes.specs.Nine.{nine}
-use Rattle.codes.proofs.Laws.{blank_code, if_blank_code, same-nine, location_few}
+use Rattle.codes.proofs.Laws.{if_blank_code, same-nine, location_few}
 use Rattle.moves.proofs.end.Goals as goal
 use Rattle.moves.proofs.end.Lts as lts
 use Rattle.moves.proofs.end.Reads as reads

@@ -6,7 +6,7 @@ use Rattle.model.specs.Sheet.{sheet_of}
 use Rattle.formula.specs.Clause.{S, terms, left_cells, right_cells}
 use Rattle.formula.specs.Numbering.{number}
 use Rattle.codes.specs.Nine.{nine}
-use Rattle.codes.proofs.Laws.{blank_code, not_blank_code, if_blank_code, same-nine, location_few}
+use Rattle.codes.proofs.Laws.{not_blank_code, if_blank_code, same-nine, location_few}
 use Rattle.moves.proofs.right.Goals as goal
 use Rattle.moves.proofs.right.Lts as lts
 use Rattle.moves.proofs.right.Reads as reads

@@ -1,11 +1,8 @@
-use mathlib.Core.Path.{◌≡◌, refl, sym, ap, ◌∙◌}
-use Prim.Native.Nat.{◌+◌, ◌-◌, ◌≤◌}
-use native.Mathlib.Omega.{arith}
+use mathlib.Core.Path.{◌≡◌}
+use Prim.Native.Nat.{◌-◌, ◌≤◌}
 use Rattle.model.specs.Lists.{total}
 use Rattle.model.specs.Sheet.{sheet_of}
 use Rattle.formula.specs.Count.{variable_counts}
-use Rattle.model.proofs.Keeping.{total-more}
-use Rattle.formula.proofs.Small.{parts-few, variables_part}
 use Rattle.shape.specs.Name.{section_of}
 use Rattle.numbering.proofs.parts_before.Given as goal
 

@@ -1,12 +1,8 @@
-use mathlib.Core.Path.{◌≡◌, refl, ap, ◌∙◌}
-use Prim.Native.Nat.{◌+◌, ◌-◌, ◌≤◌}
-use native.Mathlib.Omega.{arith}
+use mathlib.Core.Path.{◌≡◌}
+use Prim.Native.Nat.{◌-◌, ◌≤◌}
 use Rattle.model.specs.Lists.{total}
 use Rattle.model.specs.Sheet.{sheet_of}
-use Rattle.formula.specs.Clause.{spread}
 use Rattle.formula.specs.Numbering.{row_size}
-use Rattle.model.proofs.Keeping.{total-more}
-use Rattle.formula.proofs.Small.{fields-few, rows_part}
 use Rattle.numbering.proofs.sums_before.Given as goal
 
 abbrev pub invariant-loop-i : goal.invariant-loop-i

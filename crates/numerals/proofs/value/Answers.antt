@@ -1,4 +1,5 @@
 -- `numerals::value` meets its contract. The loop's invariant: the rest's figures decide, and the sum is what the figures before say, below a bound
+-- that their number gives. Assumes nothing.
 use mathlib.Core.Path.{sym}
 use mathlib.Core.Logic.{⊎_elim}
 use Prim.Native.Nat.{◌<◌, ◌≤◌}

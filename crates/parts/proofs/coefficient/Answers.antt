@@ -8,7 +8,6 @@ use Rattle.model.specs.Sheet.{sheet_of, constraint}
 use Rattle.model.proofs.Places.{ConstraintAt, constraint_in, constraint-at}
 use Rattle.scan.proofs.Machine.{stored}
 use Rattle.parts.proofs.Known.{lent_bytes}
-use borrow.Author.Rules.{rules}
 use Rattle.parts.proofs.coefficient.Goals as goal
 use Rattle.parts.proofs.coefficient.Lts as lts
 use Rattle.parts.proofs.coefficient.Reads as reads

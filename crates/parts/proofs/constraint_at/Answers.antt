@@ -9,7 +9,6 @@ use Rattle.model.specs.Sheet.{sheet_of, encode_constraint, constraint}
 use Rattle.model.proofs.Known.{accepted_counts, accepted_in_range}
 use Rattle.model.proofs.Places.{field-count-at, equation-count-at, past-equations, this_constraint}
 use Rattle.parts.proofs.Known.{lent_bytes, header-there}
-use borrow.Author.Rules.{rules}
 use Rattle.parts.proofs.constraint_at.Goals as goal
 use Rattle.parts.proofs.constraint_at.Lts as lts
 use Rattle.parts.proofs.constraint_at.Reads as reads

@@ -1,9 +1,8 @@
 -- `parts::entry_at` meets its contract. The loop's invariant: at the offset stand the equations from i on, and then the constraints. Assumes nothing.
 use mathlib.Core.Path.{◌≡◌, subst}
 use mathlib.Core.List.{◌++◌}
-use Prim.Native.Nat.{◌+◌, ◌-◌, ◌<◌, ◌≤◌}
+use Prim.Native.Nat.{◌+◌, ◌-◌, ◌<◌}
 use native.Mathlib.Omega.{arith}
-use borrow.Author.Rules.{rules}
 use lib.ListN.{length, drop}
 use Rattle.model.specs.Lists.{each, Holds}
 use Rattle.model.specs.Sheet.{sheet_of, encode_equation, encode_constraint, equation}

@@ -7,7 +7,6 @@ use Rattle.model.specs.Lists.{Holds}
 use Rattle.model.specs.Sheet.{sheet_of}
 use Rattle.parts.proofs.Known.{lent_bytes, header-there}
 use Rattle.model.proofs.Places.{letter-count-at, holds_at_lem, holds_fits, holds-from, holds_limits}
-use borrow.Author.Rules.{rules}
 use Rattle.parts.proofs.limit.Goals as goal
 use Rattle.parts.proofs.limit.Lts as lts
 use Rattle.parts.proofs.limit.Reads as reads

@@ -8,7 +8,6 @@ use Rattle.model.specs.Sheet.{sheet_of, constraint, sixteen, signed16}
 use Rattle.model.proofs.Places.{field-count-at, ConstraintAt, constraint_in, constraint-at}
 use Rattle.scan.proofs.Machine.{stored}
 use Rattle.parts.proofs.Known.{lent_bytes, header-there}
-use borrow.Author.Rules.{rules}
 use Rattle.parts.proofs.most.Goals as goal
 use Rattle.parts.proofs.most.Lts as lts
 use Rattle.parts.proofs.most.Reads as reads

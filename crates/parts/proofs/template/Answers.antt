@@ -8,7 +8,6 @@ use borrow.Author.Tests.{eq-eqb, ne_eqb}
 use Rattle.model.specs.Lists.{each}
 use Rattle.model.specs.Sheet.{symbol_byte, sheet_of, encode_constraint, equation}
 use Rattle.model.proofs.Places.{EquationAt, this_equation, holds-take}
-use borrow.Author.Rules.{rules}
 use Rattle.parts.proofs.template.Goals as goal
 use Rattle.parts.proofs.template.Lts as lts
 use Rattle.parts.proofs.template.Reads as reads

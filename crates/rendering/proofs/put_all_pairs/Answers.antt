@@ -1,9 +1,7 @@
 -- `rendering::put_all_pairs` meets its contract. The loop's invariant: the lines of the first a values have been written. Assumes nothing.
 use mathlib.Core.List.{List}
-use Prim.Native.Nat.{ℕ, suc, ◌+◌, ◌-◌, ◌≤◌}
+use Prim.Native.Nat.{ℕ, suc, ◌-◌}
 use native.Mathlib.Omega.{arith}
-use Rattle.model.specs.Lists.{each, up_to}
-use Rattle.model.proofs.Seams.{Written}
 use Rattle.model.proofs.Pieces.{loop_none, loop_room, loop_next, loop_done}
 use Rattle.rendering.specs.Codes.{pair_lines}
 use Rattle.rendering.proofs.put_all_pairs.Goals as goal

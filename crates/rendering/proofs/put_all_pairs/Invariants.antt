@@ -1,9 +1,6 @@
-use mathlib.Core.List.{List}
-use Prim.Native.Nat.{ℕ, suc, ◌+◌, ◌-◌, ◌≤◌}
-use native.Mathlib.Omega.{arith}
+use Prim.Native.Nat.{◌+◌, ◌-◌, ◌≤◌}
 use Rattle.model.specs.Lists.{each, up_to}
 use Rattle.model.proofs.Seams.{Written}
-use Rattle.model.proofs.Pieces.{loop_none, loop_room, loop_next, loop_done}
 use Rattle.rendering.specs.Codes.{pair_lines}
 use Rattle.rendering.proofs.put_all_pairs.Given as goal
 

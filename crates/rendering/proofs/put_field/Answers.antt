@@ -1,9 +1,7 @@
 -- `rendering::put_field` meets its contract. The loop's invariant: the lines of the first c places have been written. Assumes nothing.
-use Prim.Native.Nat.{◌-◌, ◌≤◌}
+use Prim.Native.Nat.{◌-◌}
 use native.Mathlib.Omega.{arith}
-use Rattle.model.specs.Lists.{each, up_to}
 use Rattle.model.specs.Sheet.{sheet_of, limit}
-use Rattle.model.proofs.Seams.{Written}
 use Rattle.model.proofs.Pieces.{loop_none, loop_room, loop_next, loop_done}
 use Rattle.rendering.specs.Lines.{place_lines, field_lines}
 use Rattle.rendering.proofs.put_field.Goals as goal

@@ -1,10 +1,8 @@
 use Prim.Native.Nat.{◌-◌, ◌≤◌}
-use native.Mathlib.Omega.{arith}
 use Rattle.model.specs.Lists.{each, up_to}
 use Rattle.model.specs.Sheet.{sheet_of, limit}
 use Rattle.model.proofs.Seams.{Written}
-use Rattle.model.proofs.Pieces.{loop_none, loop_room, loop_next, loop_done}
-use Rattle.rendering.specs.Lines.{place_lines, field_lines}
+use Rattle.rendering.specs.Lines.{place_lines}
 use Rattle.rendering.proofs.put_field.Given as goal
 
 abbrev pub invariant-loop-c : goal.invariant-loop-c

@@ -3,7 +3,6 @@ use mathlib.Core.Path.{sym, ap, ◌∙◌}
 use mathlib.Core.List.{List, [], ◌∷◌, ◌++◌}
 use Prim.Native.Nat.{ℕ}
 use native.Mathlib.Omega.{arith}
-use borrow.Author.Rules.{rules}
 use Rattle.model.specs.Sheet.{Sheet, sheet_of}
 use Rattle.formula.specs.Clause.{Start}
 use Rattle.formula.specs.Count.{Section, of_fields, of_equations, of_constraints}

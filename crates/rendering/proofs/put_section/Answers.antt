@@ -1,10 +1,8 @@
 -- `rendering::put_section` meets its contract. The loop's invariant: the lines of the first i parts have been written. Assumes nothing.
-use Prim.Native.Nat.{◌-◌, ◌≤◌}
+use Prim.Native.Nat.{◌-◌}
 use native.Mathlib.Omega.{arith}
-use Rattle.model.specs.Lists.{each, up_to}
 use Rattle.model.specs.Sheet.{sheet_of}
 use Rattle.formula.specs.Count.{parts}
-use Rattle.model.proofs.Seams.{Written}
 use Rattle.model.proofs.Pieces.{loop_none, loop_room, loop_next, loop_done}
 use Rattle.shape.specs.Name.{section_of}
 use Rattle.rendering.specs.Lines.{part_lines, section_lines}

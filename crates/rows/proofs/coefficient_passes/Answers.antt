@@ -5,7 +5,6 @@ use Rattle.rows.proofs.Tests.{below_range, from_range}
 use Rattle.scan.proofs.Machine.{stored}
 use mir.Syntax.{w8}
 use mathlib.Core.Path.{refl}
-use borrow.Author.Rules.{rules}
 use Rattle.rows.proofs.coefficient_passes.Goals as goal
 
 pub returns-then-c-lt-LEAST_COEFFICIENT : goal.returns-then-c-lt-LEAST_COEFFICIENT

@@ -1,6 +1,5 @@
 -- `rows::role_passes` meets its contract: the test of each role. Assumes nothing.
 use mathlib.Core.Path.{refl}
-use borrow.Author.Rules.{rules}
 use Rattle.rows.proofs.role_passes.Goals as goal
 
 pub returns-in-Letter : goal.returns-in-Letter

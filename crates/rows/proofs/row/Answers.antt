@@ -1,10 +1,9 @@
 -- `rows::row` meets its contract. The loop's invariant: what is left of the row, after the last byte read, gives what the whole row gives. Assumes nothing.
-use mathlib.Core.Path.{◌≡◌, refl, sym, ap, ◌∙◌}
-use Prim.Native.Nat.{◌+◌, ◌-◌, ◌≤◌}
+use mathlib.Core.Path.{refl, sym, ap, ◌∙◌}
+use Prim.Native.Nat.{◌-◌}
 use native.Mathlib.Omega.{arith}
-use lib.ListN.{length, drop}
 use borrow.Author.Tests.{not-true, not-false}
-use Rattle.model.specs.Sheet.{fault, row, rest}
+use Rattle.model.specs.Sheet.{fault}
 use Rattle.rows.specs.Progress.{role_of}
 use Rattle.rows.proofs.Rows.{row_starts, row-lacks, row_goes, row_faults, row_done}
 use Rattle.rows.proofs.row.Goals as goal

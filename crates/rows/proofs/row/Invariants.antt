@@ -1,11 +1,8 @@
-use mathlib.Core.Path.{◌≡◌, refl, sym, ap, ◌∙◌}
+use mathlib.Core.Path.{◌≡◌}
 use Prim.Native.Nat.{◌+◌, ◌-◌, ◌≤◌}
-use native.Mathlib.Omega.{arith}
 use lib.ListN.{length, drop}
-use borrow.Author.Tests.{not-true, not-false}
-use Rattle.model.specs.Sheet.{fault, row, rest}
+use Rattle.model.specs.Sheet.{row, rest}
 use Rattle.rows.specs.Progress.{role_of}
-use Rattle.rows.proofs.Rows.{row_starts, row-lacks, row_goes, row_faults, row_done}
 use Rattle.rows.proofs.row.Given as goal
 
 abbrev pub invariant-loop-i : goal.invariant-loop-i

@@ -1,4 +1,5 @@
 -- `schedule_parts::start` meets its contract. The loop's invariant: from here on the templates that are left fit the file, and template i is as many further as are
+-- left to pass. Assumes nothing.
 use mathlib.Core.Path.{◌≡◌, sym, ap, subst, ◌∙◌}
 use mathlib.Core.Bool.{true}
 use Prim.Native.Nat.{◌+◌, ◌-◌, ◌<◌, ◌≤◌}

@@ -1,4 +1,5 @@
 -- `schedule_read::all_intervals` meets its contract. The loop's invariant: the templates that are left, from here on, fit the file and are answered as all of them.
+-- Assumes nothing.
 use mathlib.Core.Path.{◌≡◌, ap, subst, ◌∙◌}
 use mathlib.Core.Bool.{true}
 use Prim.Native.Nat.{◌+◌, ◌-◌, ◌<◌, ◌≤◌}

@@ -3,7 +3,6 @@ use mathlib.Core.Path.{sym, ap, ◌∙◌}
 use lib.ListN.{get_or, get_or-eq_default}
 use native.Mathlib.Omega.{arith}
 use borrow.Author.Tests.{lt-ltb, le-ltb}
-use borrow.Author.Rules.{rules}
 use Rattle.sections.proofs.cells_of.Goals as goal
 
 pub returns-then-x-lt-FIRST_FIELD : goal.returns-then-x-lt-FIRST_FIELD

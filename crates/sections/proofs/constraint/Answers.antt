@@ -7,7 +7,6 @@ use Rattle.model.specs.Sheet.{rest}
 use Rattle.rows.specs.Progress.{left}
 use Rattle.model.proofs.Rests.{rest_stops, rest_goes, constraint-rest}
 use Rattle.sections.proofs.Walks.{at_told, fault-told, landed-told, landed-within}
-use borrow.Author.Rules.{rules}
 use Rattle.sections.proofs.constraint.Goals as goal
 
 pub row-requires-in-At : goal.row-requires-in-At

@@ -1,10 +1,8 @@
 -- `sections::entries` meets its contract. The loop's invariant: the entries left, from here on, leave what all of them leave. Assumes nothing.
-use mathlib.Core.Path.{◌≡◌, refl, sym, ap, ◌∙◌}
-use Prim.Native.Nat.{◌-◌, ◌≤◌}
+use mathlib.Core.Path.{refl, sym, ap, ◌∙◌}
+use Prim.Native.Nat.{◌-◌}
 use native.Mathlib.Omega.{arith}
-use borrow.Author.Rules.{rules}
-use lib.ListN.{length, drop}
-use Rattle.model.specs.Sheet.{times, rest}
+use lib.ListN.{drop}
 use Rattle.rows.specs.Progress.{left}
 use Rattle.sections.specs.Sections.{entry_of}
 use Rattle.model.proofs.Rests.{times_starts, times_goes, times_stops, times_done}

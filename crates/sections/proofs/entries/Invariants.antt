@@ -1,13 +1,8 @@
-use mathlib.Core.Path.{◌≡◌, refl, sym, ap, ◌∙◌}
+use mathlib.Core.Path.{◌≡◌}
 use Prim.Native.Nat.{◌-◌, ◌≤◌}
-use native.Mathlib.Omega.{arith}
-use borrow.Author.Rules.{rules}
 use lib.ListN.{length, drop}
 use Rattle.model.specs.Sheet.{times, rest}
-use Rattle.rows.specs.Progress.{left}
 use Rattle.sections.specs.Sections.{entry_of}
-use Rattle.model.proofs.Rests.{times_starts, times_goes, times_stops, times_done}
-use Rattle.sections.proofs.Walks.{within-told}
 use Rattle.sections.proofs.entries.Given as goal
 
 abbrev pub invariant-loop-i : goal.invariant-loop-i

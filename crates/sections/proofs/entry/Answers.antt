@@ -1,5 +1,4 @@
 -- `sections::entry` meets its contract, by sections. Assumes nothing.
-use borrow.Author.Rules.{rules}
 use Rattle.sections.proofs.entry.Goals as goal
 
 pub returns-in-Equations : goal.returns-in-Equations

@@ -8,7 +8,6 @@ use Rattle.model.specs.Sheet as model
 use Rattle.sections.specs.Sections.{limits_in}
 use Rattle.model.proofs.Rests.{counts_stop, counts_read}
 use Rattle.sections.proofs.Walks.{at_told, fault-told, landed-told}
-use borrow.Author.Rules.{rules}
 use Rattle.sections.proofs.equation.Goals as goal
 
 pub bounds-sheet-at : goal.bounds-sheet-at

@@ -1,7 +1,6 @@
 -- `sections::narrow` meets its contract: the two stretches are the limits and the template. Assumes nothing.
 use native.Mathlib.Omega.{arith}
 use lib.ListN.{length-take}
-use borrow.Author.Rules.{rules}
 use Rattle.sections.proofs.narrow.Goals as goal
 
 pub width_of-requires : goal.width_of-requires

@@ -10,7 +10,6 @@ use Rattle.model.specs.Sheet.{rest}
 use Rattle.sections.specs.Sections.{limits_in}
 use Rattle.model.proofs.Rests.{left_stops, right_stops, both_read}
 use Rattle.sections.proofs.Walks.{at_told, fault-told, landed-told, limits-length}
-use borrow.Author.Rules.{rules}
 use Rattle.sections.proofs.sides.Goals as goal
 use Rattle.sections.proofs.sides.Lts as lts
 use Rattle.sections.proofs.sides.Reads as reads
@@ -74,15 +73,21 @@ pub returns-in-Stopped : goal.returns-in-Stopped
 returns-in-Stopped c =
     let a = c.args in
     let b = a.sheet.now in
-    let xs = drop a.at b in record { result_value = sym (left_stops a.letters a.fields (limits_in b a.letters a.fields) (limits-length b a.letters a.fields c.requires.0) a.m a.n xs
-          (fault-told b (model.row (model.template_byte a.letters a.fields) 0 a.m xs) c.row.ensures.result_value c.in-Stopped.is)); within = tt }
+    let xs = drop a.at b in record {
+      result_value = sym (left_stops a.letters a.fields (limits_in b a.letters a.fields) (limits-length b a.letters a.fields c.requires.0) a.m a.n xs
+          (fault-told b (model.row (model.template_byte a.letters a.fields) 0 a.m xs) c.row.ensures.result_value c.in-Stopped.is));
+      within = tt;
+    }
 
 pub returns-in-Stopped-row : goal.returns-in-Stopped-row
 returns-in-Stopped-row c =
     let a = c.args in
     let b = a.sheet.now in
-    let ys = drop c.in-At.a b in record { result_value = sym (right_stops a.letters a.fields (limits_in b a.letters a.fields) (limits-length b a.letters a.fields c.requires.0) a.m a.n (drop a.at b) ys
-          (left-read c.before.before.before) (fault-told b (model.row (model.template_byte a.letters a.fields) 0 a.n ys) c.row-in-At.ensures.result_value c.in-Stopped-row.is)); within = tt }
+    let ys = drop c.in-At.a b in record {
+      result_value = sym (right_stops a.letters a.fields (limits_in b a.letters a.fields) (limits-length b a.letters a.fields c.requires.0) a.m a.n (drop a.at b) ys
+          (left-read c.before.before.before) (fault-told b (model.row (model.template_byte a.letters a.fields) 0 a.n ys) c.row-in-At.ensures.result_value c.in-Stopped-row.is));
+      within = tt;
+    }
 
 pub returns-else-not-narrow-2 : goal.returns-else-not-narrow-2
 returns-else-not-narrow-2 c =

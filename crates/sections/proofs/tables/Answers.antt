@@ -8,7 +8,6 @@ use Rattle.model.specs.Sheet.{rest}
 use Rattle.rows.specs.Progress.{left, HasLanded}
 use Rattle.model.proofs.Rests.{rest_stops, rest_goes}
 use Rattle.sections.proofs.Walks.{at_told, fault-told, landed-told}
-use borrow.Author.Rules.{rules}
 use Rattle.sections.proofs.tables.Goals as goal
 
 pub row-requires-in-At : goal.row-requires-in-At

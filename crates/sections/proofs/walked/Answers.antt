@@ -8,7 +8,6 @@ use Rattle.sections.specs.Sections.{counts_of, entry_of, tables_of}
 use Rattle.sections.specs.declared.Section.TheVariants.{Equations, Constraints}
 use Rattle.model.proofs.Rests.{walk_stops}
 use Rattle.sections.proofs.Walks.{at_told, fault-told, landed-told, within-told, equations_stop, constraints-left}
-use borrow.Author.Rules.{rules}
 use Rattle.sections.proofs.walked.Goals as goal
 
 pub entries-requires : goal.entries-requires

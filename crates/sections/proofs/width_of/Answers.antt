@@ -1,10 +1,6 @@
 -- `sections::width_of` meets its contract. The loop's invariant: the total and the width of the symbols left are the width; no symbol has over 255 cells. Assumes nothing.
-use mathlib.Core.Path.{◌≡◌}
-use mathlib.Core.List.{map}
-use Prim.Native.Nat.{◌+◌, ◌-◌, ◌*◌, ◌≤◌}
+use Prim.Native.Nat.{◌-◌}
 use native.Mathlib.Omega.{arith}
-use lib.ListN.{length, drop}
-use Rattle.model.specs.Sheet.{symbol_of, width}
 use Rattle.model.proofs.Widths.{width_turn, width_done}
 use Rattle.sections.proofs.width_of.Goals as goal
 

@@ -1,10 +1,8 @@
 use mathlib.Core.Path.{◌≡◌}
 use mathlib.Core.List.{map}
 use Prim.Native.Nat.{◌+◌, ◌-◌, ◌*◌, ◌≤◌}
-use native.Mathlib.Omega.{arith}
 use lib.ListN.{length, drop}
 use Rattle.model.specs.Sheet.{symbol_of, width}
-use Rattle.model.proofs.Widths.{width_turn, width_done}
 use Rattle.sections.proofs.width_of.Given as goal
 
 abbrev pub invariant-loop-i : goal.invariant-loop-i

@@ -1,6 +1,5 @@
 -- `shape::equations` meets its contract. Assumes nothing.
 use mathlib.Core.Path.{ap, ◌∙◌}
-use borrow.Author.Rules.{rules}
 use Rattle.model.specs.Sheet.{Counts}
 use Rattle.shape.proofs.equations.Goals as goal
 

@@ -1,5 +1,4 @@
 -- `shape::expand` meets its contract: what is put from the front on are the cells of the side, as many as it is wide. Assumes nothing.
-use borrow.Author.Rules.{rules}
 use Rattle.shape.proofs.Laws.{can_put, put_expands}
 use Rattle.shape.proofs.expand.Goals as goal
 

@@ -1,6 +1,5 @@
 -- `shape::letters` meets its contract. Assumes nothing.
 use mathlib.Core.Path.{ap, ◌∙◌}
-use borrow.Author.Rules.{rules}
 use Rattle.model.specs.Sheet.{Counts}
 use Rattle.shape.proofs.letters.Goals as goal
 

@@ -1,7 +1,6 @@
 -- `shape::limit` meets its contract. Assumes nothing.
 use mathlib.Core.Path.{◌∙◌}
 use native.Mathlib.Omega.{arith}
-use borrow.Author.Rules.{rules}
 use Rattle.model.specs.Sheet.{sheet_of}
 use Rattle.formula.proofs.Small.{limit-small}
 use Rattle.shape.proofs.limit.Goals as goal

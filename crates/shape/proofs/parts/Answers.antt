@@ -1,7 +1,6 @@
 -- `shape::parts` meets its contract. Assumes nothing.
 use mathlib.Core.Path.{sym, ap, ◌∙◌}
 use native.Mathlib.Omega.{arith}
-use borrow.Author.Rules.{rules}
 use Rattle.model.specs.Sheet.{sheet_of}
 use Rattle.formula.specs.Count.{parts}
 use Rattle.formula.proofs.Small.{fields-few, equations-few, constraints-few}

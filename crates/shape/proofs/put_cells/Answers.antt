@@ -1,7 +1,7 @@
 -- `shape::put_cells` meets its contract. The loop's invariant: the cells of the first i symbols have been written. Assumes nothing.
 use mathlib.Core.Path.{sym, subst}
 use mathlib.Core.List.{map}
-use Prim.Native.Nat.{◌-◌, ◌≤◌}
+use Prim.Native.Nat.{◌-◌}
 use native.Mathlib.Omega.{arith}
 use lib.ListN.{length, get_or, length-map, get_or-map}
 use Rattle.model.specs.Sheet.{symbol_of, sheet_of}
@@ -10,7 +10,7 @@ use Rattle.model.specs.Cells.{symbol_cells}
 use Rattle.model.proofs.Lists.{at}
 use Rattle.model.proofs.Seams.{Written, nothing, more}
 use Rattle.shape.specs.Bytes.{cell_byte}
-use Rattle.shape.proofs.Laws.{taken, taken_none, taken-all, taken_more, taken-room}
+use Rattle.shape.proofs.Laws.{taken_none, taken-all, taken_more, taken-room}
 use Rattle.shape.proofs.put_cells.Goals as goal
 
 pub loop-i-init : goal.loop-i-init

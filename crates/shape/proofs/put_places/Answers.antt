@@ -1,10 +1,9 @@
 -- `shape::put_places` meets its contract. The loop's invariant: the first c places have been written. Assumes nothing.
 use mathlib.Core.Path.{◌≡◌, subst}
 use mathlib.Core.List.{[], ◌∷◌, ◌++◌, map}
-use Prim.Native.Nat.{◌+◌, ◌-◌, ◌*◌, ◌≤◌}
+use Prim.Native.Nat.{◌+◌, ◌-◌, ◌*◌}
 use native.Mathlib.Omega.{arith}
 use lib.ListN.{set, length-set}
-use borrow.Author.Rules.{rules}
 use Rattle.model.specs.Lists.{up_to, from}
 use Rattle.model.specs.Cells.{place}
 use Rattle.model.proofs.Seams.{Written, nothing, more, put_one}

@@ -1,14 +1,9 @@
-use mathlib.Core.Path.{◌≡◌, subst}
-use mathlib.Core.List.{[], ◌∷◌, ◌++◌, map}
-use Prim.Native.Nat.{◌+◌, ◌-◌, ◌*◌, ◌≤◌}
-use native.Mathlib.Omega.{arith}
-use lib.ListN.{set, length-set}
-use borrow.Author.Rules.{rules}
-use Rattle.model.specs.Lists.{up_to, from}
+use mathlib.Core.List.{map}
+use Prim.Native.Nat.{◌+◌, ◌-◌, ◌≤◌}
+use Rattle.model.specs.Lists.{up_to}
 use Rattle.model.specs.Cells.{place}
-use Rattle.model.proofs.Seams.{Written, nothing, more, put_one}
+use Rattle.model.proofs.Seams.{Written}
 use Rattle.shape.specs.Bytes.{cell_byte}
-use Rattle.shape.proofs.Laws.{places-more, places-length}
 use Rattle.shape.proofs.put_places.Given as goal
 
 abbrev pub invariant-loop-c : goal.invariant-loop-c

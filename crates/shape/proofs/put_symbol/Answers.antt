@@ -3,7 +3,6 @@ use mathlib.Core.Path.{ap, ◌∙◌}
 use Prim.Native.Nat.{◌<◌}
 use native.Mathlib.Omega.{arith}
 use lib.ListN.{length, length-set}
-use borrow.Author.Rules.{rules}
 use Rattle.model.specs.Sheet.{sheet_of, limit}
 use Rattle.formula.proofs.Small.{limit-small}
 use Rattle.model.proofs.Seams.{put_one}

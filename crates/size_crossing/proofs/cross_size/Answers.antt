@@ -5,7 +5,6 @@ use lib.ListN.{length}
 use Rattle.shape.specs.Bytes.{side_of}
 use Rattle.shape.proofs.Sides.{says_used, says_letter, says_field}
 use Rattle.crossings.specs.Codes.{cross_lines}
-use borrow.Author.Rules.{rules}
 use Rattle.size_crossing.proofs.cross_size.Goals as goal
 
 pub returns-then-u-eq-USED : goal.returns-then-u-eq-USED

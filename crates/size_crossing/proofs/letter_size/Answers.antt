@@ -9,7 +9,6 @@ use Rattle.dimacs.specs.Codes.{code_size}
 use Rattle.dimacs.proofs.Sizes.{line_one}
 use Rattle.crossings.specs.Codes.{letter_lines}
 use Rattle.size_crossing.proofs.Laws.{letter-same, letter_other, letter-field}
-use borrow.Author.Rules.{rules}
 use Rattle.size_crossing.proofs.letter_size.Goals as goal
 
 pub returns-then-v-eq-USED : goal.returns-then-v-eq-USED

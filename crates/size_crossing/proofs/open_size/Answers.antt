@@ -8,7 +8,6 @@ use Rattle.formula.specs.Kind.{at_letter, at_field, SideIn}
 use Rattle.shape.specs.Bytes.{side_of}
 use Rattle.crossings.specs.Codes.{open_lines}
 use Rattle.size_crossing.proofs.Laws.{open_used, open_letter, open_field_lem}
-use borrow.Author.Rules.{rules}
 use Rattle.size_crossing.proofs.open_size.Goals as goal
 use Rattle.size_crossing.proofs.open_size.Lts as lts
 use Rattle.size_crossing.proofs.open_size.Reads as reads

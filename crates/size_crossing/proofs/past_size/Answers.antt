@@ -7,7 +7,6 @@ use Rattle.shape.proofs.Sides.{says_used, says_letter, says_field}
 use Rattle.dimacs.proofs.Sizes.{line_one}
 use Rattle.crossings.specs.Codes.{past_lines}
 use Rattle.size_crossing.proofs.Laws.{past-field}
-use borrow.Author.Rules.{rules}
 use Rattle.size_crossing.proofs.past_size.Goals as goal
 
 pub returns-then-v-eq-USED : goal.returns-then-v-eq-USED

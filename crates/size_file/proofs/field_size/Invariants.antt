@@ -1,11 +1,9 @@
-use mathlib.Core.Path.{◌≡◌, sym, ap, ◌∙◌}
+use mathlib.Core.Path.{◌≡◌}
 use Prim.Native.Nat.{◌-◌, ◌*◌, ◌≤◌}
-use native.Mathlib.Omega.{arith}
 use lib.ListN.{length}
 use Rattle.model.specs.Lists.{each, up_to}
 use Rattle.model.specs.Sheet.{sheet_of, limit}
-use Rattle.rendering.specs.Lines.{place_lines, field_lines}
-use Rattle.model.proofs.Keeping.{length_none, length_more}
+use Rattle.rendering.specs.Lines.{place_lines}
 use Rattle.size_file.proofs.field_size.Given as goal
 
 abbrev pub invariant-loop-c : goal.invariant-loop-c

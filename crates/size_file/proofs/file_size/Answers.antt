@@ -1,6 +1,5 @@
 -- `size_file::file_size` meets its contract. Assumes nothing.
 use native.Mathlib.Omega.{arith}
-use borrow.Author.Rules.{rules}
 use Rattle.model.specs.Sheet.{sheet_of}
 use Rattle.formula.proofs.Totals.{clause_count_lem}
 use Rattle.formula.proofs.Small.{variables-small, clauses_small}

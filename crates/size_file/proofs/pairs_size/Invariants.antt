@@ -1,11 +1,8 @@
-use mathlib.Core.Path.{◌≡◌, sym, ap, ◌∙◌}
-use mathlib.Core.List.{List}
-use Prim.Native.Nat.{ℕ, suc, ◌+◌, ◌-◌, ◌*◌, ◌≤◌}
-use native.Mathlib.Omega.{arith}
+use mathlib.Core.Path.{◌≡◌}
+use Prim.Native.Nat.{◌+◌, ◌-◌, ◌*◌, ◌≤◌}
 use lib.ListN.{length}
 use Rattle.model.specs.Lists.{each, up_to}
 use Rattle.rendering.specs.Codes.{pair_lines}
-use Rattle.model.proofs.Keeping.{length_none, length_more}
 use Rattle.size_file.proofs.pairs_size.Given as goal
 
 abbrev pub invariant-loop-a : goal.invariant-loop-a

@@ -1,13 +1,11 @@
-use mathlib.Core.Path.{◌≡◌, sym, ap, ◌∙◌}
+use mathlib.Core.Path.{◌≡◌}
 use Prim.Native.Nat.{◌-◌, ◌*◌, ◌≤◌}
-use native.Mathlib.Omega.{arith}
 use lib.ListN.{length}
 use Rattle.model.specs.Lists.{each, up_to}
 use Rattle.model.specs.Sheet.{sheet_of}
 use Rattle.formula.specs.Count.{parts}
 use Rattle.shape.specs.Name.{section_of}
-use Rattle.rendering.specs.Lines.{part_lines, section_lines}
-use Rattle.model.proofs.Keeping.{length_none, length_more}
+use Rattle.rendering.specs.Lines.{part_lines}
 use Rattle.size_file.proofs.section_size.Given as goal
 
 abbrev pub invariant-loop-i : goal.invariant-loop-i

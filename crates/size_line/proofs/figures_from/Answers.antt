@@ -1,7 +1,6 @@
 -- `size_line::figures_from` meets its contract. Assumes nothing.
 use native.Mathlib.Omega.{arith}
 use Rattle.size_line.proofs.Laws.{figures_all}
-use borrow.Author.Rules.{rules}
 use Rattle.size_line.proofs.figures_from.Goals as goal
 
 pub returns : goal.returns

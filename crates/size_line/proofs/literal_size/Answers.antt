@@ -3,7 +3,6 @@ use mathlib.Core.Path.{sym, ap, ◌∙◌}
 use native.Mathlib.Omega.{arith}
 use Rattle.dimacs.specs.Codes.{code_size}
 use Rattle.dimacs.proofs.Sizes.{no_size, code_size_lem}
-use borrow.Author.Rules.{rules}
 use Rattle.size_line.proofs.literal_size.Goals as goal
 
 pub returns-then-code-eq0 : goal.returns-then-code-eq0

@@ -2,7 +2,6 @@
 use Prim.Native.Nat.{◌+◌, ◌%◌}
 use native.Mathlib.Omega.{arith}
 use Rattle.size_line.proofs.Laws.{literals-all, most}
-use borrow.Author.Rules.{rules}
 use Rattle.size_line.proofs.literals_size.Goals as goal
 
 pub overflow_mul-result : goal.overflow_mul-result

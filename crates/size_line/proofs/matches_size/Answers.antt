@@ -3,7 +3,6 @@ use mathlib.Core.Path.{ap₂}
 use Prim.Native.Nat.{◌+◌, ◌*◌, ◌≤◌}
 use native.Mathlib.Omega.{arith}
 use Rattle.size_line.proofs.Laws.{match_lines, most}
-use borrow.Author.Rules.{rules}
 use Rattle.size_line.proofs.matches_size.Goals as goal
 use Rattle.size_line.proofs.matches_size.Lts as lts
 use Rattle.size_line.proofs.matches_size.Reads as reads

@@ -1,7 +1,6 @@
 -- `size_line::problem_size` meets its contract. Assumes nothing.
 use native.Mathlib.Omega.{arith}
 use Rattle.formula.proofs.Lines.{problem_length}
-use borrow.Author.Rules.{rules}
 use Rattle.size_line.proofs.problem_size.Goals as goal
 
 pub returns : goal.returns

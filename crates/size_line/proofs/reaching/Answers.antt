@@ -1,6 +1,5 @@
 -- `size_line::reaching` meets its contract. Assumes nothing.
 use native.Mathlib.Omega.{arith}
-use borrow.Author.Rules.{rules}
 use Rattle.size_line.proofs.Laws.{reached-is}
 use Rattle.size_line.proofs.reaching.Goals as goal
 

@@ -3,7 +3,6 @@ use mathlib.Core.Path.{ap₂, sym, ◌∙◌}
 use Prim.Native.Nat.{◌+◌, ◌*◌}
 use native.Mathlib.Omega.{arith}
 use Rattle.size_line.proofs.Laws.{unlike_lines, most}
-use borrow.Author.Rules.{rules}
 use Rattle.size_line.proofs.unlike_size.Goals as goal
 
 pub overflow_mul-result : goal.overflow_mul-result

@@ -1,16 +1,9 @@
-use mathlib.Core.Path.{◌≡◌, ap}
-use Prim.Native.Nat.{ℕ, suc, ◌+◌, ◌-◌, ◌*◌, ◌≤◌}
-use native.Mathlib.Omega.{arith}
+use mathlib.Core.Path.{◌≡◌}
+use Prim.Native.Nat.{◌+◌, ◌-◌, ◌*◌, ◌≤◌}
 use lib.ListN.{length}
 use Rattle.model.specs.Lists.{each, up_to}
-use Rattle.model.specs.Sheet.{Sheet, sheet_of}
-use Rattle.formula.specs.Clause.{S, left_cells}
-use Rattle.formula.specs.Numbering.{number}
-use Rattle.dimacs.specs.Codes.{code_size, most_code}
+use Rattle.model.specs.Sheet.{sheet_of}
 use Rattle.locations.specs.Lines.{row_lines}
-use Rattle.locations.proofs.Rows.{Surveyed, location_few, row-few, row_told, row-places}
-use Rattle.model.proofs.Keeping.{length_none, length_more}
-use Rattle.size_location.proofs.Laws.{equation-lines}
 use Rattle.size_location.proofs.equation_size.Given as goal
 
 abbrev pub invariant-loop-i : goal.invariant-loop-i

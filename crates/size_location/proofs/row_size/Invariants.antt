@@ -1,14 +1,9 @@
-use mathlib.Core.Path.{◌≡◌, ap, sym, ◌∙◌}
-use mathlib.Core.List.{List}
-use Prim.Native.Nat.{ℕ, ◌+◌, ◌-◌, ◌*◌, ◌≤◌}
-use native.Mathlib.Omega.{arith}
+use mathlib.Core.Path.{◌≡◌}
+use Prim.Native.Nat.{◌+◌, ◌-◌, ◌*◌, ◌≤◌}
 use lib.ListN.{length, get_or}
 use Rattle.model.specs.Lists.{each, up_to}
 use Rattle.shape.specs.Bytes.{side_of}
-use Rattle.dimacs.specs.Codes.{large_code}
 use Rattle.crossings.specs.Codes.{cross_lines}
-use Rattle.locations.specs.Codes.{row_of}
-use Rattle.model.proofs.Keeping.{length_none, length_more}
 use Rattle.size_location.proofs.row_size.Given as goal
 
 abbrev pub invariant-loop-j : goal.invariant-loop-j

@@ -4,13 +4,11 @@ use Prim.Native.Nat.{ℕ, ◌+◌, ◌-◌, ◌*◌, ◌≤◌}
 use native.Mathlib.Omega.{arith}
 use Rattle.model.specs.Sheet.{Sheet, Constraint, sheet_of, constraint}
 use Rattle.formula.specs.Clause.{T, least, spread, fields}
-use Rattle.formula.specs.Count.{within}
 use Rattle.formula.specs.Numbering.{number}
 use Rattle.formula.proofs.Totals.{within_le}
 use Rattle.dimacs.specs.Codes.{most_code}
 use Rattle.sums.proofs.Summed.{low_in, low_code}
 use Rattle.size_sum.proofs.Laws.{bound_lines_lem}
-use borrow.Author.Rules.{rules}
 use Rattle.size_sum.proofs.bounds_size.Goals as goal
 use Rattle.size_sum.proofs.bounds_size.Lts as lts
 use Rattle.size_sum.proofs.bounds_size.Reads as reads

@@ -11,7 +11,6 @@ use Rattle.formula.proofs.Numbering.{number_small}
 use Rattle.formula.proofs.Small.{variables-small}
 use Rattle.dimacs.specs.Codes.{code_size}
 use Rattle.size_sum.proofs.Laws.{constraint-lines}
-use borrow.Author.Rules.{rules}
 use Rattle.size_sum.proofs.constraint_size.Goals as goal
 
 pub sum_code-requires : goal.sum_code-requires

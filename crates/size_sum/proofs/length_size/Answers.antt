@@ -15,7 +15,6 @@ use Rattle.dimacs.specs.Codes.{code_size, most_code}
 use Rattle.sums.proofs.Summed.{coefficient_back}
 use Rattle.size_line.proofs.Laws.{most}
 use Rattle.size_sum.proofs.Laws.{least-few, length-lines, short-few, long-few}
-use borrow.Author.Rules.{rules}
 use Rattle.size_sum.proofs.length_size.Goals as goal
 use Rattle.size_sum.proofs.length_size.Lts as lts
 use Rattle.size_sum.proofs.length_size.Reads as reads
@@ -30,8 +29,7 @@ few start =
     let ok = start.requires.0.1 in
     let r = start.args.r in
     let k = start.args.k in
-    let hr = start.requires.1 in
-    (
+    let hr = start.requires.1 in (
       omega (arith, start.requires.6, start.requires.2, spread-small (s start) ok r hr k, fields-few (s start) ok),
       omega (arith, start.requires.4, least-few (s start) ok r hr k (omega (arith, start.requires.2))),
       omega (arith, start.requires.5, least-few (s start) ok r hr (suc k) (omega (arith, start.requires.2))),

@@ -7,7 +7,6 @@ use lib.IntN.{nat_abs}
 use mir.Syntax.{w8}
 use Rattle.scan.proofs.Machine.{small_back}
 use Rattle.size_sum.proofs.Laws.{rise-negative, rise_other, rise-few, product_few}
-use borrow.Author.Rules.{rules}
 use Rattle.size_sum.proofs.rise.Goals as goal
 use Rattle.size_sum.proofs.rise.Lts as lts
 use Rattle.size_sum.proofs.rise.Reads as reads

@@ -1,18 +1,11 @@
-use mathlib.Core.Path.{◌≡◌, sym, ap, ap₂, ◌∙◌}
-use Prim.Native.Nat.{ℕ, suc, ◌+◌, ◌-◌, ◌*◌, ◌<◌, ◌≤◌}
-use native.Mathlib.Omega.{arith}
+use mathlib.Core.Path.{◌≡◌}
+use Prim.Native.Nat.{◌+◌, ◌-◌, ◌*◌, ◌≤◌}
 use lib.ListN.{length}
 use lib.IntN.{pos, ◌+ℤ◌}
 use Rattle.model.specs.Lists.{total}
-use Rattle.model.specs.Sheet.{Sheet, Constraint, sheet_of, constraint}
-use Rattle.model.specs.Sheet as model
-use Rattle.formula.specs.Clause.{T, Add, least, spread}
-use Rattle.formula.specs.Numbering.{number}
-use Rattle.model.proofs.Keeping.{total-none, total-more}
-use Rattle.formula.proofs.Small.{fields-few}
+use Rattle.model.specs.Sheet.{sheet_of, constraint}
+use Rattle.formula.specs.Clause.{Add, least}
 use Rattle.literals.specs.Name.{line_of}
-use Rattle.sums.proofs.Summed.{low_in, low_code}
-use Rattle.size_sum.proofs.Laws.{step_lines_lem}
 use Rattle.size_sum.proofs.step_size.Given as goal
 
 abbrev pub invariant-loop-d : goal.invariant-loop-d

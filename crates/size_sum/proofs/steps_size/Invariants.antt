@@ -1,13 +1,10 @@
-use mathlib.Core.Path.{◌≡◌, sym, ap, ◌∙◌}
+use mathlib.Core.Path.{◌≡◌}
 use Prim.Native.Nat.{◌-◌, ◌*◌, ◌≤◌}
-use native.Mathlib.Omega.{arith}
 use lib.ListN.{length}
 use Rattle.model.specs.Lists.{each, up_to}
 use Rattle.model.specs.Sheet.{sheet_of}
 use Rattle.formula.specs.Clause.{fields}
-use Rattle.formula.proofs.Small.{fields-few}
 use Rattle.sums.specs.Lines.{step_lines}
-use Rattle.model.proofs.Keeping.{length_none, length_more}
 use Rattle.size_sum.proofs.steps_size.Given as goal
 
 abbrev pub invariant-loop-k : goal.invariant-loop-k

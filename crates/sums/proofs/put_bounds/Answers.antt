@@ -4,13 +4,11 @@ use mathlib.Core.List.{List, [], ◌∷◌}
 use Prim.Native.Nat.{ℕ, suc, ◌+◌, ◌-◌, ◌*◌, ◌<◌, ◌≤◌}
 use native.Mathlib.Omega.{arith}
 use lib.ListN.{length}
-use borrow.Author.Rules.{rules}
 use Rattle.model.specs.Lists.{each, up_to, Puts}
 use Rattle.model.specs.Sheet.{Sheet, Constraint, sheet_of, constraint}
 use Rattle.formula.specs.Clause.{T, least, spread, fields}
 use Rattle.formula.specs.Count.{within}
 use Rattle.formula.specs.Numbering.{number}
-use Rattle.model.proofs.Seams.{Written}
 use Rattle.model.proofs.Pieces.{loop_none, loop_room, loop_next, loop_done}
 use Rattle.formula.proofs.Totals.{within_le}
 use Rattle.dimacs.specs.Codes.{codes_line, most_code, large_code}

@@ -2,7 +2,6 @@
 use mathlib.Core.Path.{refl}
 use mathlib.Core.List.{List, [], ◌∷◌}
 use Prim.Native.Nat.{ℕ}
-use borrow.Author.Rules.{rules}
 use Rattle.model.specs.Lists.{each, up_to}
 use Rattle.model.specs.Sheet.{Sheet, sheet_of}
 use Rattle.formula.specs.Clause.{Start, Zero, fields}

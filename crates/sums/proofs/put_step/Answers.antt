@@ -11,7 +11,6 @@ use Rattle.model.specs.Lists.{each, up_to, Puts}
 use Rattle.model.specs.Sheet.{Sheet, Constraint, sheet_of, constraint}
 use Rattle.formula.specs.Clause.{T, least, spread, blank}
 use Rattle.formula.specs.Numbering.{number}
-use Rattle.model.proofs.Seams.{Written}
 use Rattle.model.proofs.Pieces.{loop_none, loop_room, loop_next, loop_done}
 use Rattle.formula.proofs.Small.{letters-few, fields-few}
 use Rattle.numbering.proofs.Laws.{number_fits, add_fits, add_back}

@@ -1,23 +1,8 @@
-use mathlib.Core.Path.{◌≡◌, sym, ap, subst, ◌∙◌}
-use mathlib.Core.List.{List}
-use Prim.Native.Nat.{ℕ, suc, ◌+◌, ◌-◌, ◌*◌, ◌<◌, ◌≤◌}
-use native.Mathlib.Omega.{arith}
-use lib.IntN.{ℤ, ◌+ℤ◌}
-use lib.ListN.{length}
-use mir.Syntax.{w8, w16}
-use mir.Val.{to_z, of_z}
-use Rattle.model.specs.Lists.{each, up_to, Puts}
-use Rattle.model.specs.Sheet.{Sheet, Constraint, sheet_of, constraint}
-use Rattle.formula.specs.Clause.{T, least, spread, blank}
-use Rattle.formula.specs.Numbering.{number}
+use Prim.Native.Nat.{◌+◌, ◌-◌, ◌≤◌}
+use Rattle.model.specs.Lists.{each, up_to}
+use Rattle.model.specs.Sheet.{sheet_of}
 use Rattle.model.proofs.Seams.{Written}
-use Rattle.model.proofs.Pieces.{loop_none, loop_room, loop_next, loop_done}
-use Rattle.formula.proofs.Small.{letters-few, fields-few}
-use Rattle.numbering.proofs.Laws.{number_fits, add_fits, add_back}
-use Rattle.dimacs.specs.Codes.{most_code, large_code}
-use Rattle.sums.specs.Lines.{sum_lines, step_lines}
-use Rattle.sums.specs.Codes.{add_line, Added}
-use Rattle.sums.proofs.Summed.{sum_lines_lem, added, low_in, low_code, low_back, coefficient_back}
+use Rattle.sums.specs.Lines.{sum_lines}
 use Rattle.sums.proofs.put_step.Given as goal
 
 abbrev pub invariant-loop-m : goal.invariant-loop-m

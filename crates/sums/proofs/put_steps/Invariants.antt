@@ -1,11 +1,8 @@
 use Prim.Native.Nat.{◌-◌, ◌≤◌}
-use native.Mathlib.Omega.{arith}
 use Rattle.model.specs.Lists.{each, up_to}
 use Rattle.model.specs.Sheet.{sheet_of}
 use Rattle.formula.specs.Clause.{fields}
 use Rattle.model.proofs.Seams.{Written}
-use Rattle.model.proofs.Pieces.{loop_none, loop_room, loop_next, loop_done}
-use Rattle.formula.proofs.Small.{fields-few}
 use Rattle.sums.specs.Lines.{step_lines}
 use Rattle.sums.proofs.put_steps.Given as goal
 

@@ -4,12 +4,10 @@ use mathlib.Core.List.{List, [], ◌∷◌}
 use Prim.Native.Nat.{ℕ, suc, ◌+◌, ◌-◌, ◌≤◌}
 use native.Mathlib.Omega.{arith}
 use lib.ListN.{length}
-use borrow.Author.Rules.{rules}
 use mir.Syntax.{w8, w16}
 use mir.Val.{to_z, of_z}
 use Rattle.model.specs.Lists.{each, up_to, Puts}
 use Rattle.formula.specs.Clause.{Start}
-use Rattle.model.proofs.Seams.{Written}
 use Rattle.model.proofs.Pieces.{loop_none, loop_room, loop_next, loop_done}
 use Rattle.scan.proofs.Machine.{small_back}
 use Rattle.dimacs.specs.Codes.{codes_line}

@@ -1,19 +1,7 @@
-use mathlib.Core.Path.{◌≡◌, refl, sym, subst}
-use mathlib.Core.List.{List, [], ◌∷◌}
-use Prim.Native.Nat.{ℕ, suc, ◌+◌, ◌-◌, ◌≤◌}
-use native.Mathlib.Omega.{arith}
-use lib.ListN.{length}
-use borrow.Author.Rules.{rules}
-use mir.Syntax.{w8, w16}
-use mir.Val.{to_z, of_z}
-use Rattle.model.specs.Lists.{each, up_to, Puts}
-use Rattle.formula.specs.Clause.{Start}
+use Prim.Native.Nat.{◌+◌, ◌-◌, ◌≤◌}
+use Rattle.model.specs.Lists.{each, up_to}
 use Rattle.model.proofs.Seams.{Written}
-use Rattle.model.proofs.Pieces.{loop_none, loop_room, loop_next, loop_done}
-use Rattle.scan.proofs.Machine.{small_back}
-use Rattle.dimacs.specs.Codes.{codes_line}
-use Rattle.sums.specs.Codes.{add_line, Added}
-use Rattle.dimacs.proofs.Coded.{same_four}
+use Rattle.sums.specs.Codes.{add_line}
 use Rattle.sums.proofs.put_sum.Given as goal
 
 abbrev pub invariant-loop-d : goal.invariant-loop-d

@@ -1,9 +1,7 @@
 -- `scan::bytes::find` meets its contract. The loop's invariant: the first x from index i on is the first from the start on. Assumes nothing.
-use mathlib.Core.Path.{◌≡◌, refl}
-use Prim.Native.Nat.{◌+◌, ◌-◌, ◌≤◌}
+use mathlib.Core.Path.{refl}
+use Prim.Native.Nat.{◌-◌}
 use native.Mathlib.Omega.{arith}
-use lib.ListN.{length, drop}
-use Rattle.model.specs.Lists.{span}
 use Rattle.model.proofs.Spans.{span_here, span-later, span_nowhere}
 use Rattle.scan.proofs.bytes.find.Goals as goal
 

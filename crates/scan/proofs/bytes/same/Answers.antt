@@ -1,6 +1,5 @@
 -- `scan::bytes::same` meets its contract: other lengths, or as far as the right one goes. Assumes nothing.
 use mathlib.Core.Path.{sym, ◌∙◌}
-use borrow.Author.Rules.{rules}
 use native.Mathlib.Omega.{arith}
 use Rattle.model.proofs.Lists.{other_length, same_starts}
 use Rattle.scan.proofs.bytes.same.Goals as goal

@@ -3,7 +3,6 @@ use mathlib.Core.Path.{refl}
 use native.Mathlib.Omega.{arith}
 use mir.Syntax.{w8, w16}
 use Rattle.scan.proofs.Machine.{low_half, high_fits, high_narrows, high_half}
-use borrow.Author.Rules.{rules}
 use Rattle.scan.proofs.bytes.signed_byte.Goals as goal
 
 pub returns-then-x-lt128 : goal.returns-then-x-lt128

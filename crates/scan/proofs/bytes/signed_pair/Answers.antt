@@ -4,7 +4,6 @@ use Prim.Native.Nat.{◌+◌, ◌*◌}
 use native.Mathlib.Omega.{arith}
 use mir.Syntax.{w16, w32}
 use Rattle.scan.proofs.Machine.{low_half, high_fits, high_narrows, high_half}
-use borrow.Author.Rules.{rules}
 use Rattle.scan.proofs.bytes.signed_pair.Goals as goal
 
 pub returns-then-n-lt32768 : goal.returns-then-n-lt32768

@@ -1,9 +1,7 @@
 -- `scan::bytes::starts_with` meets its contract. The loop's invariant: the rest of the mark against the rest of the bytes decides. Assumes nothing.
-use mathlib.Core.Path.{◌≡◌, refl, sym, ◌∙◌}
-use Prim.Native.Nat.{◌-◌, ◌≤◌}
+use mathlib.Core.Path.{refl, sym, ◌∙◌}
+use Prim.Native.Nat.{◌-◌}
 use native.Mathlib.Omega.{arith}
-use lib.ListN.{length, drop}
-use Rattle.model.specs.Lists.{starts_with}
 use Rattle.model.proofs.Marks.{mark-same, mark-differs, mark-short, mark-whole}
 use Rattle.scan.proofs.bytes.starts_with.Goals as goal
 

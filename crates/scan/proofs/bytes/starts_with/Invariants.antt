@@ -1,9 +1,7 @@
-use mathlib.Core.Path.{◌≡◌, refl, sym, ◌∙◌}
+use mathlib.Core.Path.{◌≡◌}
 use Prim.Native.Nat.{◌-◌, ◌≤◌}
-use native.Mathlib.Omega.{arith}
 use lib.ListN.{length, drop}
 use Rattle.model.specs.Lists.{starts_with}
-use Rattle.model.proofs.Marks.{mark-same, mark-differs, mark-short, mark-whole}
 use Rattle.scan.proofs.bytes.starts_with.Given as goal
 
 abbrev pub invariant-loop-i : goal.invariant-loop-i
