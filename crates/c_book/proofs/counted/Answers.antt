@@ -4,7 +4,6 @@ use Prim.Native.Nat.{◌≤◌}
 use native.Mathlib.Omega.{arith}
 use mir.Syntax.{w64}
 use mir.ValLaws.{to_z_pos}
-use borrow.Author.Rules.{rules}
 use Rattle.book_list.specs.Answer.{compared}
 use Rattle.c_answer.specs.Returned.{returned_number}
 use Rattle.c_answer.proofs.Negated.{minus_told}
