@@ -49,13 +49,13 @@ loop-c-preserved c =
     let b = c.letters-blank.result in
     let n = c.limit-limit.result in
     elim c.if-here-blank.branch [
-      then-here-blank w ↦ (
+      | then-here-blank w ↦ (
         omega arith,
         l.invariant.1
             ∙ ahead_blank b h n l.c inside l.ended (sym here ∙ w.if-here-blank.true)
             ∙ ap (λ e. ahead b h n e (l.c + 1)) (sym w.ended-is),
       )
-    | else-here-blank+else-ended w ↦ (
+      | else-here-blank+else-ended w ↦ (
         omega arith,
         l.invariant.1
             ∙ ap (λ e. ahead b h n e l.c) w.if-ended.false
