@@ -8,7 +8,7 @@ use native.Mathlib.Omega.{arith}
 use lib.Dec.{eqb, ltb}
 use lib.Pointwise.{pointwise}
 use mir.Syntax.{Width}
-use mir.Val.{to_z, hbits, bits}
+use mir.Val.{to_z, of_z, hbits, bits}
 use mir.ValLaws.{to_z_pos, to_z-neg}
 use borrow.Author.Tests.{eq-eqb, ne_eqb}
 use Rattle.std.proofs.Common.{Option}
@@ -20,6 +20,7 @@ use native.Mathlib.Numerals.{add-one}
 use lib.ListN.{length, take}
 use borrow.Author.Tests.{ltb-true, ltb-false, eqb-true, eqb-false}
 use Rattle.model.proofs.Lists.{by_test}
+use Rattle.scan.proofs.Machine.{stored}
 use Rattle.model.specs.Lists.{starts_with, same, span}
 use Rattle.model.specs.Sheet.{signed}
 use Rattle.model.proofs.Signed.{signed_low, signed_high}
@@ -61,3 +62,7 @@ cast-signed w half n e whole h = by_test (ltb n half)
     let k = half + half - suc n in
     let is : n ≡ 2 ^ bits w - suc k = omega arith in
     ap (to_z w) is ∙ to_z-neg w k (omega arith) ∙ sym (signed_high half n from_half h))
+
+-- the same, as it is stored and read back
+pub signed-read : (w : Width) (half n : ℕ) → half ≡ 2 ^ hbits w → half + half ≡ 2 ^ bits w → n < half + half → to_z w (of_z w (to_z w n)) ≡ signed half n
+signed-read w half n e whole h = rw (cast-signed w half n e whole h) (stored w half n e h)

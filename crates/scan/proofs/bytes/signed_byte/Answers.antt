@@ -2,9 +2,8 @@
 use mathlib.Core.Path.{refl}
 use native.Mathlib.Omega.{arith}
 use mir.Syntax.{w8}
-use Rattle.scan.proofs.Words.{cast-signed}
-use Rattle.scan.proofs.Machine.{stored}
+use Rattle.scan.proofs.Words.{signed-read}
 use Rattle.scan.proofs.bytes.signed_byte.Goals as goal
 
 pub returns : goal.returns
-returns c = rw (c.cast_signed.ensures, cast-signed w8 128 c.args.x refl refl (omega arith)) (stored w8 128 c.args.x refl (omega arith))
+returns c = rw c.cast_signed.ensures (signed-read w8 128 c.args.x refl refl (omega arith))

@@ -3,9 +3,8 @@ use mathlib.Core.Path.{refl}
 use Prim.Native.Nat.{◌+◌, ◌*◌}
 use native.Mathlib.Omega.{arith}
 use mir.Syntax.{w16}
-use Rattle.scan.proofs.Words.{cast-signed}
-use Rattle.scan.proofs.Machine.{stored}
+use Rattle.scan.proofs.Words.{signed-read}
 use Rattle.scan.proofs.bytes.signed_pair.Goals as goal
 
 pub returns : goal.returns
-returns c = rw (c.from_be_bytes.ensures, cast-signed w16 32768 (c.args.high * 256 + c.args.low) refl refl (omega arith)) (stored w16 32768 (c.args.high * 256 + c.args.low) refl (omega arith))
+returns c = rw c.from_be_bytes.ensures (signed-read w16 32768 (c.args.high * 256 + c.args.low) refl refl (omega arith))
