@@ -11,7 +11,10 @@ use mir.Syntax.{Width}
 use mir.Val.{to_z, of_z, hbits, bits}
 use mir.ValLaws.{to_z_pos, to_z-neg}
 use borrow.Author.Tests.{eq-eqb, ne_eqb}
-use Rattle.std.proofs.Common.{Option}
+use Rattle.std.proofs.Common.{rules, false, Option, Some, nat_cmp}
+use Rattle.std.specs.declared.ops.RangeInclusive.{RangeInclusive}
+use Rattle.std.specs.Range.{range_inclusive_contains, range_inclusive_start, range_inclusive_end, range_inclusive_exhausted}
+use borrow.Author.Tests.{tests}
 use Rattle.std.specs.Option.{MatchOption, unwrap_or}
 use Rattle.std.specs.List as std
 use Rattle.std.specs.List.{AllWithin, HoldsAt}
@@ -21,7 +24,7 @@ use lib.ListN.{length, take}
 use borrow.Author.Tests.{ltb-true, ltb-false, eqb-true, eqb-false}
 use Rattle.model.proofs.Lists.{by_test}
 use Rattle.scan.proofs.Machine.{stored}
-use Rattle.model.specs.Lists.{starts_with, same, span}
+use Rattle.model.specs.Lists.{between, starts_with, same, span}
 use Rattle.model.specs.Sheet.{signed}
 use Rattle.model.proofs.Signed.{signed_low, signed_high}
 
@@ -66,3 +69,8 @@ cast-signed w half n e whole h = by_test (ltb n half)
 -- the same, as it is stored and read back
 pub signed-read : (w : Width) (half n : ℕ) → half ≡ 2 ^ hbits w → half + half ≡ 2 ^ bits w → n < half + half → to_z w (of_z w (to_z w n)) ≡ signed half n
 signed-read w half n e whole h = rw (cast-signed w half n e whole h) (stored w half n e h)
+
+-- what `contains` answers at a range of bytes
+pub range-between : (r : RangeInclusive ℕ) (low high n : ℕ) → range_inclusive_start r ≡ low → range_inclusive_end r ≡ high → range_inclusive_exhausted r ≡ false →
+    range_inclusive_contains (λ a b. Some (nat_cmp a b)) r n ≡ between low high n
+range-between r low high n s e x = rw (s, e, x) (search (rules, tests))
