@@ -12,8 +12,4 @@ use Rattle.places.proofs.blanks_last.Given as goal
 
 abbrev pub invariant-loop-c : goal.invariant-loop-c
 invariant-loop-c l =
-    (l.c ≤ l.limit)
-    × (blanks_last l.blank (map (held (sheet_of l.sheet) (truth l.marks) l.f) (up_to l.limit)) ≡ ahead l.blank (held (sheet_of l.sheet) (truth l.marks) l.f) l.limit l.ended l.c)
-
-abbrev pub decreases-loop-c : goal.decreases-loop-c
-decreases-loop-c l = l.limit - l.c
+    blanks_last l.blank (map (held (sheet_of l.sheet) (truth l.marks) l.f) (up_to l.limit)) ≡ ahead l.blank (held (sheet_of l.sheet) (truth l.marks) l.f) l.limit l.ended l.c

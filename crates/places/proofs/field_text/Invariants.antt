@@ -14,9 +14,5 @@ use Rattle.places.proofs.field_text.Given as goal
 
 abbrev pub invariant-loop-c : goal.invariant-loop-c
 invariant-loop-c l =
-    (l.c ≤ l.limit)
-    × (l.letters ≡ map (held (sheet_of l.sheet) (truth l.marks) l.f) (up_to l.c) ++ drop l.c l.initial.letters)
+    (l.letters ≡ map (held (sheet_of l.sheet) (truth l.marks) l.f) (up_to l.c) ++ drop l.c l.initial.letters)
     × ((k : ℕ) → k < l.c → held (sheet_of l.sheet) (truth l.marks) l.f k ≡ l.blank → ⊥)
-
-abbrev pub decreases-loop-c : goal.decreases-loop-c
-decreases-loop-c l = l.limit - l.c

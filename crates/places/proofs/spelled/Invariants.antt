@@ -7,7 +7,4 @@ use Rattle.places.proofs.Laws.{Filled, filled_start, filled_more, text_at, fille
 use Rattle.places.proofs.spelled.Given as goal
 
 abbrev pub invariant-loop-f : goal.invariant-loop-f
-invariant-loop-f l = (l.f ≤ l.fields) × Filled (text_at (sheet_of l.sheet) (truth l.marks)) l.f l.g
-
-abbrev pub decreases-loop-f : goal.decreases-loop-f
-decreases-loop-f l = l.fields - l.f
+invariant-loop-f l = Filled (text_at (sheet_of l.sheet) (truth l.marks)) l.f l.g

@@ -7,6 +7,3 @@ use Rattle.places.proofs.values.Given as goal
 
 abbrev pub invariant-loop-a : goal.invariant-loop-a
 invariant-loop-a l = Counted (is_true (sheet_of l.sheet) l.marks l.f l.c) l.blank l.a l.count l.least
-
-abbrev pub decreases-loop-a : goal.decreases-loop-a
-decreases-loop-a l = l.a
