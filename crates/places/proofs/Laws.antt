@@ -16,7 +16,7 @@ use Rattle.model.specs.Word.{Legal}
 use Rattle.formula.specs.Clause.{K, blank, fields}
 use Rattle.formula.specs.Numbering.{variables, number}
 use Rattle.formula.specs.Assignment.{Assignment, truth, up_to_blank, held, true_values, spelled}
-use Rattle.calls.specs.Reply.{all_single, blanks_last, none_after_blank}
+use Rattle.calls.specs.Reply.{blanks_last}
 use Rattle.model.proofs.Lists.{by_test, from_at}
 use Rattle.model.proofs.Keeping.{all_below, all_not, keep-yes, keep-no, length-map-from, map_next}
 use Rattle.model.proofs.Seams.{store_next, drop-replicate}

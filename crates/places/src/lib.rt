@@ -58,7 +58,10 @@ fn single(sheet: &[u8], marks: &[u8], f: usize) -> bool
     requires { Marked sheet.now marks.now × (f < length (sheet_of sheet.now).limits) }
     ensures { result ≡ all (λ c. eqb (length (true_values (sheet_of sheet.now) (truth marks.now) f c)) 1) (up_to (model.limit (sheet_of sheet.now) f)) }
 {
-    every(shape::limit(sheet, f), |c| values(sheet, marks, f, c).count == 1)
+    every(
+        shape::limit(sheet, f),
+        |c| values(sheet, marks, f, c).count == 1,
+    )
 }
 
 // Whether no letter stands after a blank in field f.

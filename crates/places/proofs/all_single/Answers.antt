@@ -1,16 +1,14 @@
 -- `places::all_single` meets its contract. Assumes nothing.
-use mathlib.Core.Path.{◌≡◌, sym, ap, ◌∙◌}
+use mathlib.Core.Path.{ap, ◌∙◌}
 use mathlib.Core.Bool.{Bool}
-use mathlib.Core.List.{map}
 use Prim.Native.Nat.{ℕ}
 use lib.Dec.{eqb}
 use lib.ListN.{length}
 use borrow.Author.Rules.{rules}
 use Rattle.model.specs.Lists.{all, up_to}
 use Rattle.model.specs.Sheet.{limit, sheet_of}
-use Rattle.formula.specs.Clause.{blank}
-use Rattle.formula.specs.Assignment.{truth, true_values, held}
-use Rattle.calls.specs.Reply.{all_single, blanks_last, none_after_blank}
+use Rattle.formula.specs.Assignment.{truth, true_values}
+use Rattle.calls.specs.Reply.{all_single}
 use Rattle.places.proofs.Laws.{every_is}
 use Rattle.places.proofs.all_single.Goals as goal
 

@@ -1,7 +1,7 @@
 -- `places::blanks_last` meets its contract. The loop's invariant: what is asked of the places from c on, before a blank or after one, decides.
-use mathlib.Core.Path.{◌≡◌, sym, ap, ap₂, ◌∙◌}
+use mathlib.Core.Path.{sym, ap, ap₂, ◌∙◌}
 use mathlib.Core.List.{map}
-use Prim.Native.Nat.{ℕ, ◌+◌, ◌-◌, ◌≤◌}
+use Prim.Native.Nat.{ℕ, ◌+◌}
 use native.Mathlib.Omega.{arith}
 use Rattle.model.specs.Lists.{up_to}
 use Rattle.model.specs.Sheet.{sheet_of}
@@ -50,14 +50,14 @@ loop-c-preserved c =
     let n = c.limit-limit.result in
     elim c.if-here-blank.branch [
       | then-here-blank w ↦
-        l.invariant
-            ∙ ahead_blank b h n l.c inside l.ended (sym here ∙ w.if-here-blank.true)
-            ∙ ap (λ e. ahead b h n e (l.c + 1)) (sym w.ended-is)
+          l.invariant
+          ∙ ahead_blank b h n l.c inside l.ended (sym here ∙ w.if-here-blank.true)
+          ∙ ap (λ e. ahead b h n e (l.c + 1)) (sym w.ended-is)
       | else-here-blank+else-ended w ↦
-        l.invariant
-            ∙ ap (λ e. ahead b h n e l.c) w.if-ended.false
-            ∙ ahead_letter b h n l.c inside (λ e. w.if-here-blank.false (here ∙ e))
-            ∙ ap (λ e. ahead b h n e (l.c + 1)) (sym (w.ended-is ∙ w.if-ended.false))
+          l.invariant
+          ∙ ap (λ e. ahead b h n e l.c) w.if-ended.false
+          ∙ ahead_letter b h n l.c inside (λ e. w.if-here-blank.false (here ∙ e))
+          ∙ ap (λ e. ahead b h n e (l.c + 1)) (sym (w.ended-is ∙ w.if-ended.false))
     ]
 
 pub returns : goal.returns

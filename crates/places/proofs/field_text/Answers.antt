@@ -1,9 +1,8 @@
 -- `places::field_text` meets its contract. The loop's invariant: the places passed hold letters, and these have been stored. Assumes nothing.
 use mathlib.Core.Path.{◌≡◌, refl, sym, ap, ◌∙◌}
-use mathlib.Core.List.{◌++◌, map}
-use Prim.Native.Nat.{ℕ, ◌-◌, ◌<◌, ◌≤◌}
+use mathlib.Core.List.{map}
+use Prim.Native.Nat.{ℕ}
 use native.Mathlib.Omega.{arith}
-use lib.ListN.{drop}
 use borrow.Author.Count.{below_more}
 use Rattle.model.specs.Lists.{from, up_to}
 use Rattle.model.specs.Sheet.{sheet_of}

@@ -1,15 +1,10 @@
-use mathlib.Core.Path.{◌≡◌, refl, sym, ap, ◌∙◌}
+use mathlib.Core.Path.{◌≡◌}
 use mathlib.Core.List.{◌++◌, map}
-use Prim.Native.Nat.{ℕ, ◌-◌, ◌<◌, ◌≤◌}
-use native.Mathlib.Omega.{arith}
+use Prim.Native.Nat.{ℕ, ◌<◌}
 use lib.ListN.{drop}
-use borrow.Author.Count.{below_more}
-use Rattle.model.specs.Lists.{from, up_to}
+use Rattle.model.specs.Lists.{up_to}
 use Rattle.model.specs.Sheet.{sheet_of}
 use Rattle.formula.specs.Assignment.{truth, held}
-use Rattle.formula.proofs.Small.{letters-few}
-use Rattle.model.proofs.Keeping.{length-map-from}
-use Rattle.places.proofs.Laws.{text-whole, text_stop, field-holds, store_more}
 use Rattle.places.proofs.field_text.Given as goal
 
 abbrev pub invariant-loop-c : goal.invariant-loop-c

@@ -1,10 +1,10 @@
 -- `places::spelled` meets its contract. The loop's invariant: the fields passed hold what the marks spell, and all are whole. Assumes nothing.
-use Prim.Native.Nat.{◌-◌, ◌<◌, ◌≤◌}
+use Prim.Native.Nat.{◌<◌}
 use native.Mathlib.Omega.{arith}
 use Rattle.model.specs.Sheet.{sheet_of}
 use Rattle.formula.specs.Assignment.{truth}
 use Rattle.formula.proofs.Small.{fields-few}
-use Rattle.places.proofs.Laws.{Filled, filled_start, filled_more, text_at, filled_held}
+use Rattle.places.proofs.Laws.{filled_start, filled_more, text_at, filled_held}
 use Rattle.places.proofs.spelled.Goals as goal
 use Rattle.places.proofs.spelled.Lts as lts
 use Rattle.places.proofs.spelled.Reads as reads

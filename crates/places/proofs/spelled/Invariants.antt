@@ -1,9 +1,6 @@
-use Prim.Native.Nat.{◌-◌, ◌<◌, ◌≤◌}
-use native.Mathlib.Omega.{arith}
 use Rattle.model.specs.Sheet.{sheet_of}
 use Rattle.formula.specs.Assignment.{truth}
-use Rattle.formula.proofs.Small.{fields-few}
-use Rattle.places.proofs.Laws.{Filled, filled_start, filled_more, text_at, filled_held}
+use Rattle.places.proofs.Laws.{Filled, text_at}
 use Rattle.places.proofs.spelled.Given as goal
 
 abbrev pub invariant-loop-f : goal.invariant-loop-f

@@ -3,7 +3,7 @@ use Prim.Native.Nat.{◌-◌}
 use native.Mathlib.Omega.{arith}
 use Rattle.model.specs.Sheet.{sheet_of}
 use Rattle.formula.proofs.Small.{letters-few}
-use Rattle.places.proofs.Laws.{is_true, in_marks, is_true_lem, is_false, Counted, counted_start, counted-yes, counted-no, counted-all}
+use Rattle.places.proofs.Laws.{is_true, in_marks, is_true_lem, is_false, counted_start, counted-yes, counted-no, counted-all}
 use Rattle.places.proofs.values.Goals as goal
 
 pub letters-blank-requires : goal.letters-blank-requires
