@@ -1,7 +1,7 @@
 -- The parts of specs/Count as the code has them. Assumes nothing.
 use mathlib.Core.Path.{◌≡◌, refl, ap, ap₂, sym, ◌∙◌}
 use mathlib.Core.List.{List}
-use Prim.Native.Nat.{ℕ, suc, ◌+◌, ◌-◌, ◌*◌, ◌<◌, ◌≤◌}
+use Prim.Native.Nat.{ℕ, zero, suc, ◌+◌, ◌-◌, ◌*◌, ◌<◌, ◌≤◌}
 use native.Mathlib.Omega.{arith}
 use lib.ListN.{length, get_or}
 use borrow.Author.Tests.{lt-ltb, le-ltb}
@@ -22,14 +22,14 @@ use Rattle.kinds.specs.declared.Census.{Census}
 use Rattle.kinds.proofs.Laws.{counted-few, letter_below, row-counted}
 use Rattle.model.proofs.Templates.{well_formed}
 
--- the clauses of a field with no place, and with some
-module _ (s : Sheet) (f : ℕ) (n : ℕ) (is : n ≡ limit s f) where
-  pub field-none : n ≡ 0 → field_count s f ≡ 0
-  field-none e = ap (λ k. total k (place_count (blank s) k)) (sym is ∙ e) ∙ total-none (place_count (blank s) 0)
-
-  pub field-some : (n ≡ 0 → ⊥) → (l p : ℕ) → l ≡ blank s → p ≡ not_both_count l → n * (2 + p) ≡ field_count s f + 1
-  field-some z l p el ep =
-      ap₂ (λ x y. x * (2 + y)) is (ep ∙ ap not_both_count el) ∙ sym (field-total (blank s) (limit s f) (omega arith))
+-- the clauses of a field, with no place and with some
+pub field-known : (s : Sheet) (f n l p : ℕ) → n ≡ limit s f → l ≡ blank s → p ≡ not_both_count l → n * (2 + p) - 1 ≡ field_count s f
+field-known s f zero l p is el ep =
+    let none : field_count s f ≡ 0 = ap (λ k. total k (place_count (blank s) k)) (sym is) ∙ total-none (place_count (blank s) 0) in
+    omega (arith, none)
+field-known s f (suc n) l p is el ep =
+    let e : suc n * (2 + p) ≡ field_count s f + 1 = ap₂ (λ x y. x * (2 + y)) is (ep ∙ ap not_both_count el) ∙ sym (field-total (blank s) (limit s f) (omega arith)) in
+    omega arith
 
 -- The right side of an equation by its bytes: the first are cells, and past them the template is used up.
 not_past : (u : Cell) → cell_side u ≡ used → ⊥

@@ -43,14 +43,14 @@ pub fn kind_count(l: usize, kind: Kind) -> usize
 
 // What stands on one side of a location: nothing, a letter, or a place.
 #[derive(Clone, Copy)]
-enum Side {
+pub enum Side {
     Used,
     Letter(u8),
     Place,
 }
 
 // What a byte of a side says.
-fn side_of(cell: u8) -> Side
+pub fn side_of(cell: u8) -> Side
     ensures { stands result ≡ side_of cell }
 {
     if cell == USED {

@@ -28,7 +28,7 @@ survey-right-requires c =
 
 pub loop-i-init : goal.loop-i-init
 loop-i-init c =
-    (omega arith, omega (arith, total-none (row_count (sheet_of c.args.sheet.now) c.args.p)), omega arith)
+    (omega (arith, total-none (row_count (sheet_of c.args.sheet.now) c.args.p)), omega arith)
 
 pub bounds-left-i : goal.bounds-left-i
 bounds-left-i c =
@@ -45,10 +45,6 @@ overflow_add-sum c =
     let at-loop = c.loop-i in
     omega (arith, c.width-m.ensures, at-loop.invariant, c.row_count-sum.ensures)
 
-pub overflow_add-i : goal.overflow_add-i
-overflow_add-i c =
-    omega (arith, c.width-m.ensures)
-
 pub loop-i-preserved : goal.loop-i-preserved
 loop-i-preserved c =
     let l = c.loop-i in
@@ -59,7 +55,7 @@ loop-i-preserved c =
     let s = sheet_of at-letters.args.sheet.now in
     let more = total-more l.i (row_count s at-letters.args.p) in
     let this = c.row_count-sum.ensures.0 ∙ row-found s at-letters.requires.0.1 at-letters.args.p at-letters.requires.1 at-survey.survey-right.result at-survey.survey-right.ensures at-letters.letters-letters.result at_Side.side-left.result at-letters.letters-letters.ensures at_Side.side-left.ensures l.i (omega (arith, at_width.width-m.ensures)) in
-    (omega arith, omega (arith, l.invariant), omega (arith, l.invariant, c.row_count-sum.ensures))
+    (omega (arith, l.invariant), omega (arith, l.invariant, c.row_count-sum.ensures))
 
 pub returns : goal.returns
 returns c =
@@ -68,4 +64,4 @@ returns c =
     let l = c.loop-i in
     let s = sheet_of a.sheet.now in
     let e : l.i ≡ suc (length (left_cells s a.p)) = omega (arith, l.invariant, at_width.width-m.ensures) in
-    (l.invariant.1 ∙ ap (λ k. 1 + total k (row_count s a.p)) e ∙ sym (equation-known s a.p), omega (arith, l.invariant, at_width.width-m.ensures))
+    (l.invariant.0 ∙ ap (λ k. 1 + total k (row_count s a.p)) e ∙ sym (equation-known s a.p), omega (arith, l.invariant, at_width.width-m.ensures))

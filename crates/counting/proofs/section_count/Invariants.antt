@@ -7,7 +7,4 @@ use Rattle.shape.specs.Name.{section_of}
 use Rattle.counting.proofs.section_count.Given as goal
 
 abbrev pub invariant-loop-i : goal.invariant-loop-i
-invariant-loop-i l = (l.i ≤ l.parts) × (l.sum ≡ total l.i (part_counts (sheet_of l.sheet) (section_of l.section))) × (l.sum ≤ l.i * 10616)
-
-abbrev pub decreases-loop-i : goal.decreases-loop-i
-decreases-loop-i l = l.parts - l.i
+invariant-loop-i l = (l.sum ≡ total l.i (part_counts (sheet_of l.sheet) (section_of l.section))) × (l.sum ≤ l.i * 10616)

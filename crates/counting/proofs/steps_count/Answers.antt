@@ -8,38 +8,33 @@ use Rattle.formula.specs.Count.{step_count}
 use Rattle.model.proofs.Keeping.{total-more, total-none}
 use Rattle.counting.proofs.steps_count.Goals as goal
 
-pub fields-fields-requires : goal.fields-fields-requires
-fields-fields-requires c = c.requires.0
+pub fields-k-end-requires : goal.fields-k-end-requires
+fields-k-end-requires c = c.requires.0
 
 pub loop-k-init : goal.loop-k-init
 loop-k-init c =
-    (omega arith, omega (arith, total-none (step_count (sheet_of c.args.sheet.now) c.args.r)), omega arith)
+    (omega (arith, total-none (step_count (sheet_of c.args.sheet.now) c.args.r)), omega arith)
 
 pub step_count-sum-requires : goal.step_count-sum-requires
 step_count-sum-requires c =
-    let at_fields = c.fields-fields in
+    let at_fields = c.fields-k-end in
     (c.requires.0, c.requires.1, omega (arith, at_fields.ensures, c.loop-k-test.true))
 
 pub overflow_add-sum : goal.overflow_add-sum
 overflow_add-sum c =
-    let at_fields = c.fields-fields in
+    let at_fields = c.fields-k-end in
     let at-loop = c.loop-k in
     omega (arith, c.requires.0.1.counts_in.of_fields, at_fields.ensures, at-loop.invariant, c.step_count-sum.ensures)
-
-pub overflow_add-k : goal.overflow_add-k
-overflow_add-k c =
-    let at_fields = c.fields-fields in
-    omega (arith, c.requires.0.1.counts_in.of_fields, at_fields.ensures)
 
 pub loop-k-preserved : goal.loop-k-preserved
 loop-k-preserved c =
     let at-loop = c.loop-k in
     let more = total-more at-loop.k (step_count (sheet_of c.args.sheet.now) c.args.r) in
-    (omega arith, omega (arith, at-loop.invariant, c.step_count-sum.ensures), omega (arith, at-loop.invariant, c.step_count-sum.ensures))
+    (omega (arith, at-loop.invariant, c.step_count-sum.ensures), omega (arith, at-loop.invariant, c.step_count-sum.ensures))
 
 pub returns : goal.returns
 returns c =
-    let at_fields = c.fields-fields in
+    let at_fields = c.fields-k-end in
     let e : c.loop-k.k ≡ length (sheet_of c.args.sheet.now).limits = omega (arith, c.loop-k.invariant, at_fields.ensures) in
     let l = c.loop-k.invariant in
-    (rw e at l.1, omega (arith, c.requires.0.1.counts_in.of_fields, at_fields.ensures))
+    (rw e at l.0, omega (arith, c.requires.0.1.counts_in.of_fields, at_fields.ensures))
