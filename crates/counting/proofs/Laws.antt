@@ -63,9 +63,6 @@ module _ (s : Sheet) (ok : InRange s) (p : ℕ) (h : p < length s.equations) whe
   pub bytes_cells : (bytes : List ℕ) (m : ℕ) → bytes ≡ right → m ≡ n → AllCells bytes m
   bytes_cells bytes m eb em = rw (eb, em) right-cells
 
-  pub counted-right : (l : ℕ) (bytes : List ℕ) (m : ℕ) (c : Census) → l ≡ blank s → bytes ≡ right → m ≡ n → Counted l bytes m c → Survey s p c
-  counted-right l bytes m c el eb em d = rw (el, eb, em) at d
-
   -- A census of that side is of few cells, and gives the row with left cell i.
   module _ (c : Census) (d : Survey s p c) where
     pub survey_few : Few c
@@ -84,13 +81,7 @@ pub equation-known : (s : Sheet) (p : ℕ) → equation_count s p ≡ 1 + total 
 unfolding equation_count
 equation-known s p = refl
 
--- the clauses of a step, of a constraint, and all
-pub step_known : (s : Sheet) (r k n m : ℕ) → n ≡ spread s (constraint s r) k → m ≡ limit s k → (n + 1) * (m + 1) ≡ step_count s r k
-step_known s r k n m en em =
-    let a : n + 1 ≡ suc (spread s (constraint s r) k) = omega arith in
-    let b : m + 1 ≡ suc (limit s k) = omega arith in
-    ap₂ ◌*◌ a b
-
+-- the clauses of a constraint, and all
 pub constraint-known : (s : Sheet) (r : ℕ) → constraint_count s r
     ≡ 1 + (total (fields s) (step_count s r) + (suc (spread s (constraint s r) (fields s)) - within s (constraint s r)))
 unfolding constraint_count

@@ -16,13 +16,6 @@ the-product c =
     let few : c.limit-limit.result * (2 + c.not_both_count.result) ≤ 8 * 74 = mul-le-mul c.limit-limit.ensures.1 pairs in
     few
 
-pub overflow_mul-limit : goal.overflow_mul-limit
-overflow_mul-limit c = omega (arith, the-product c.before)
-
-pub not_both_count-requires : goal.not_both_count-requires
-not_both_count-requires c =
-    omega (arith, c.requires.0.1.counts_in.of_letters, c.letters.ensures)
-
 pub returns : goal.returns
 returns c =
     let is = field-known (sheet_of c.args.sheet.now) c.args.f c.limit-limit.result c.letters.result c.not_both_count.result c.limit-limit.ensures.0 c.letters.ensures c.not_both_count.ensures.0 in

@@ -1,8 +1,8 @@
 use mathlib.Core.Path.{◌≡◌}
-use Prim.Native.Nat.{◌-◌, ◌*◌, ◌≤◌}
+use Prim.Native.Nat.{◌*◌, ◌≤◌}
 use Rattle.model.specs.Lists.{total}
 use Rattle.model.specs.Sheet.{sheet_of}
-use Rattle.formula.specs.Count.{parts, part_counts}
+use Rattle.formula.specs.Count.{part_counts}
 use Rattle.shape.specs.Name.{section_of}
 use Rattle.counting.proofs.section_count.Given as goal
 
