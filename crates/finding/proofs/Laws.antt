@@ -1,5 +1,5 @@
 -- The clauses of a place and of a constraint as the code has them. Assumes nothing.
-use mathlib.Core.Path.{◌≡◌, refl, sym, ap, ap₂, ◌∙◌}
+use mathlib.Core.Path.{◌≡◌, sym, ap, ap₂, ◌∙◌}
 use Prim.Native.Nat.{ℕ, suc, ◌+◌, ◌-◌, ◌*◌, ◌/◌, ◌%◌, ◌<◌, ◌≤◌}
 use native.Mathlib.Nat.{suc-mul, div-add-mod', mod-lt, div-lt_iff_lt-mul}
 use native.Mathlib.Omega.{arith}
@@ -13,17 +13,13 @@ use Rattle.model.specs.Lists.{total}
 use Rattle.model.specs.Sheet.{Sheet, limit, constraint}
 use Rattle.model.specs.Range.{InRange}
 use Rattle.formula.specs.Clause.{SomeValue, NotBoth, BlankTail, Zero, Add, Bound, least, spread, id_at, blank, fields}
-use Rattle.formula.specs.Count.{not_both_count, place_start, field_count, step_count, within, constraint_count, constraint_start}
+use Rattle.formula.specs.Count.{not_both_count, place_count, place_start, field_count, step_count, within, constraint_count, constraint_start}
 use Rattle.model.proofs.Lists.{by_test}
-use Rattle.model.proofs.Keeping.{total-more}
+use Rattle.model.proofs.Keeping.{total-more, total-none}
 use Rattle.formula.proofs.Totals.{place-before, field-total}
 use Rattle.formula.proofs.Finding.{some_at, not_both_at, tail_at, zero_at, add_at, bound_at}
-use Rattle.literals.specs.declared.ClauseId.{ClauseId}
-use Rattle.finding.specs.Sought.{Sought}
-use Rattle.finding.specs.declared.Found.{Found}
-use Rattle.finding.specs.declared.Found.TheVariants.{Clause, Past}
 use Rattle.numbering.proofs.Laws.{number-few, read_back}
-use Rattle.counting.proofs.Laws.{field-none, constraint-known}
+use Rattle.counting.proofs.Laws.{constraint-known}
 use Rattle.model.proofs.Templates.{well_formed}
 use Rattle.locating.proofs.Laws.{same_number}
 
@@ -42,7 +38,9 @@ module _ (s : Sheet) (ok : InRange s) (f : ℕ) (hf : f < fields s) (n : ℕ) (h
 
   some-place : 0 < limit s f
   some-place = by_test (eqb (limit s f) 0)
-      (λ e. let empty = field-none s f 0 (sym (eqb-true (limit s f) 0 e)) refl in absurd (omega arith))
+      (λ e.
+      let empty : field_count s f ≡ 0 = ap (λ k. total k (place_count (blank s) k)) (eqb-true (limit s f) 0 e) ∙ total-none (place_count (blank s) 0) in
+      absurd (omega arith))
       (λ e. let k = eqb-false (limit s f) 0 e in omega arith)
 
   in_all : n + 1 < limit s f * (2 + p)
@@ -142,12 +140,3 @@ module _ (s : Sheet) (ok : InRange s) (r : ℕ) (hr : r < length s.constraints) 
           (read_back s ok r hr v (omega arith) (w + rest) bound_below q e ∙ ap₂ (λ j z. least s (constraint s r) j +ℤ pos (z + rest)) ev ew)
           ∙ sym (bound_at s (well_formed s ok) r hr rest left_over)
           ∙ ap (λ z. id_at s z) (omega (arith, steps))
-
--- Clauses after others: what is found among the first, and what is found past them.
-module _ (s : Sheet) (start size n : ℕ) where
-  pub sought_first : (more : ℕ) (q : ClauseId) → Sought s start size n (Clause q) → Sought s start (size + more) n (Clause q)
-  sought_first more q h = (omega (arith, h.0), h.1)
-
-  pub sought_later : (k more : ℕ) (r : Found) → Sought s start size n (Past k) → Sought s (start + size) more k r → Sought s start (size + more) n r
-  sought_later k more (Clause q) e h = (omega (arith, h.0), same_number s _ (start + size + k) (start + n) h.1 (omega arith))
-  sought_later k more (Past j) e h = omega arith

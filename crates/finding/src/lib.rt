@@ -26,13 +26,11 @@ fn in_field(sheet: &[u8], f: usize, n: usize) -> ClauseId
         return ClauseId::SomeValue(f, c);
     }
     let mut rest = n % size - 1;
-    let mut a: usize = 0;
-    while a < letters {
+    for a in 0..letters {
         if rest < letters - a {
             return ClauseId::NotBoth(f, c, a, a + 1 + rest);
         }
-        rest = rest - (letters - a);
-        a += 1;
+        rest -= letters - a;
     }
     ClauseId::BlankTail(f, c)
 }
@@ -55,15 +53,13 @@ fn in_constraint(sheet: &[u8], r: usize, n: usize) -> ClauseId
     }
     let fields = shape::fields(sheet);
     let mut rest = n - 1;
-    let mut k: usize = 0;
-    while k < fields {
+    for k in 0..fields {
         let size = counting::step_count(sheet, r, k);
         if rest < size {
             let lengths = shape::limit(sheet, k) + 1;
             return ClauseId::Add(r, k, sum_at(sheet, r, k, rest / lengths), rest % lengths);
         }
-        rest = rest - size;
-        k += 1;
+        rest -= size;
     }
     ClauseId::Bound(
         r,
@@ -83,50 +79,38 @@ fn in_part(sheet: &[u8], section: Section, i: usize, n: usize) -> ClauseId
     }
 }
 
-// What is found at a number: the name of its clause; or, where there are too few clauses, the number less how many there are.
-#[derive(Clone, Copy)]
-pub enum Found {
-    Clause(ClauseId),
-    Past(usize),
-}
-
-// Clause n of those of a section, if there are so many.
-fn in_section(sheet: &[u8], section: Section, n: usize) -> Found
+// Clause n of those of a section; or, where there are too few clauses, the number less how many there are.
+fn in_section(sheet: &[u8], section: Section, n: usize) -> Result<ClauseId, usize>
     requires { Admitted sheet.now }
     ensures { Sought (sheet_of sheet.now) (section_start (sheet_of sheet.now) (section_of section)) (total (parts (sheet_of sheet.now) (section_of section)) (part_counts (sheet_of sheet.now) (section_of section))) n result }
 {
-    let parts = shape::parts(sheet, section);
     let mut rest = n;
-    let mut i: usize = 0;
-    while i < parts {
+    for i in 0..shape::parts(sheet, section) {
         let clauses = counting::part_count(sheet, section, i);
         if rest < clauses {
-            return Found::Clause(in_part(sheet, section, i, rest));
+            return Ok(in_part(sheet, section, i, rest));
         }
-        rest = rest - clauses;
-        i += 1;
+        rest -= clauses;
     }
-    Found::Past(rest)
+    Err(rest)
 }
 
-// Clause n of the equations' and then the constraints' clauses, if there are so many.
-fn past_fields(sheet: &[u8], n: usize) -> Found
+// The same of the equations' and then the constraints' clauses.
+fn past_fields(sheet: &[u8], n: usize) -> Result<ClauseId, usize>
     requires { Admitted sheet.now }
     ensures { Sought (sheet_of sheet.now) (k_clauses (sheet_of sheet.now)) (s_clauses (sheet_of sheet.now) + total (length (sheet_of sheet.now).constraints) (constraint_count (sheet_of sheet.now))) n result }
 {
-    match in_section(sheet, Section::Equations, n) {
-        Found::Clause(id) => Found::Clause(id),
-        Found::Past(rest) => in_section(sheet, Section::Constraints, rest),
-    }
+    in_section(sheet, Section::Equations, n).or_else(|rest| in_section(
+        sheet,
+        Section::Constraints,
+        rest,
+    ))
 }
 
-// Clause n of all, if there are so many.
-pub fn find(sheet: &[u8], n: usize) -> Found
+// The same of all clauses.
+pub fn find(sheet: &[u8], n: usize) -> Result<ClauseId, usize>
     requires { Admitted sheet.now }
     ensures { Sought (sheet_of sheet.now) 0 (length (ids (sheet_of sheet.now))) n result }
 {
-    match in_section(sheet, Section::Fields, n) {
-        Found::Clause(id) => Found::Clause(id),
-        Found::Past(rest) => past_fields(sheet, rest),
-    }
+    in_section(sheet, Section::Fields, n).or_else(|rest| past_fields(sheet, rest))
 }

@@ -4,7 +4,6 @@ use Prim.Native.Nat.{◌-◌, ◌<◌}
 use native.Mathlib.Omega.{arith}
 use Rattle.model.specs.Sheet.{sheet_of}
 use Rattle.formula.specs.Count.{step_count}
-use Rattle.formula.proofs.Small.{fields-few}
 use Rattle.locating.proofs.Laws.{at_first, at_next}
 use Rattle.finding.proofs.Laws.{zero_found, sum_below, add_found, bound_below, bound_small, bound_found}
 use Rattle.finding.proofs.in_constraint.Goals as goal
@@ -14,30 +13,10 @@ returns-then-n-eq0 c =
     let s = sheet_of c.args.sheet.now in
     zero_found s c.requires.0.1 c.args.r c.requires.1 c.args.n c.if-n-eq0.true
 
-pub fields-fields-requires : goal.fields-fields-requires
-fields-fields-requires c =
-    c.requires.0
-
-pub overflow_sub-rest : goal.overflow_sub-rest
-overflow_sub-rest c = omega (arith, c.if-n-eq0.false)
-
 pub loop-k-init : goal.loop-k-init
 loop-k-init c =
     let s = sheet_of c.args.sheet.now in
-    (omega arith, at_first (step_count s c.args.r) (c.args.n - 1))
-
-pub step_count-size-requires : goal.step_count-size-requires
-step_count-size-requires c =
-    let at_fields = c.fields-fields in
-    (c.requires.0, c.requires.1, omega (arith, at_fields.ensures))
-
-pub limit-lengths-requires : goal.limit-lengths-requires
-limit-lengths-requires c =
-    let at_fields = c.fields-fields in
-    (c.requires.0, omega (arith, at_fields.ensures))
-
-pub overflow_add-lengths : goal.overflow_add-lengths
-overflow_add-lengths c = omega (arith, c.limit-lengths.ensures)
+    at_first (step_count s c.args.r) (c.args.n - 1)
 
 pub sum_at-requires : goal.sum_at-requires
 sum_at-requires c =
@@ -46,7 +25,7 @@ sum_at-requires c =
     let at-loop = c.loop-k in
     let at-step-count = c.step_count-size in
     let s = sheet_of c.args.sheet.now in
-    (c.requires.0, c.requires.1, omega (arith, at_fields.ensures), sum_below s c.requires.0.1 c.args.r c.requires.1 c.args.n at-if1.false at-loop.k at-loop.rest at-loop.invariant.1 (omega (arith, at_fields.ensures)) (subst (λ n. at-loop.rest < n) at-step-count.ensures.0 c.if-rest-size.true) c.limit-lengths.result c.limit-lengths.ensures.0)
+    (c.requires.0, c.requires.1, omega (arith, at_fields.ensures), sum_below s c.requires.0.1 c.args.r c.requires.1 c.args.n at-if1.false at-loop.k at-loop.rest at-loop.invariant (omega (arith, at_fields.ensures)) (subst (λ n. at-loop.rest < n) at-step-count.ensures.0 c.if-rest-size.true) c.limit-lengths.result c.limit-lengths.ensures.0)
 
 pub returns-then-rest-size : goal.returns-then-rest-size
 returns-then-rest-size c =
@@ -56,23 +35,13 @@ returns-then-rest-size c =
     let at-step-count = c.step_count-size in
     let at-if2 = c.if-rest-size in
     let s = sheet_of c.args.sheet.now in
-    add_found s c.requires.0.1 c.args.r c.requires.1 c.args.n at-if1.false at-loop.k at-loop.rest at-loop.invariant.1 (omega (arith, at_fields.ensures)) (subst (λ n. at-loop.rest < n) at-step-count.ensures.0 at-if2.true) c.limit-lengths.result c.limit-lengths.ensures.0 c.sum_at.result c.sum_at.ensures
-
-pub overflow_add-k : goal.overflow_add-k
-overflow_add-k c =
-    let at_fields = c.fields-fields in
-    let s = sheet_of c.args.sheet.now in
-    omega (arith, at_fields.ensures, fields-few s c.requires.0.1)
+    add_found s c.requires.0.1 c.args.r c.requires.1 c.args.n at-if1.false at-loop.k at-loop.rest at-loop.invariant (omega (arith, at_fields.ensures)) (subst (λ n. at-loop.rest < n) at-step-count.ensures.0 at-if2.true) c.limit-lengths.result c.limit-lengths.ensures.0 c.sum_at.result c.sum_at.ensures
 
 pub loop-k-preserved : goal.loop-k-preserved
 loop-k-preserved c =
     let at-loop = c.loop-k in
     let s = sheet_of c.args.sheet.now in
-    (omega arith, at_next (step_count s c.args.r) (c.args.n - 1) at-loop.k at-loop.rest c.step_count-size.result at-loop.invariant.1 c.step_count-size.ensures.0 c.if-rest-size.false)
-
-pub within-requires : goal.within-requires
-within-requires c =
-    (c.requires.0, c.requires.1)
+    at_next (step_count s c.args.r) (c.args.n - 1) at-loop.k at-loop.rest c.step_count-size.result at-loop.invariant c.step_count-size.ensures.0 c.if-rest-size.false
 
 pub overflow_add-within : goal.overflow_add-within
 overflow_add-within c =
@@ -80,7 +49,7 @@ overflow_add-within c =
     let at-loop = c.loop-k in
     let at_fields = c.fields-fields in
     let s = sheet_of c.args.sheet.now in
-    omega (arith, bound_small s c.requires.0.1 c.args.r c.requires.1 c.args.n at-if1.false at-loop.k at-loop.rest at-loop.invariant.1 (omega (arith, at-loop.invariant, at_fields.ensures)) at_fields.result at_fields.ensures c.requires.2 c.within.result c.within.ensures.0)
+    omega (arith, bound_small s c.requires.0.1 c.args.r c.requires.1 c.args.n at-if1.false at-loop.k at-loop.rest at-loop.invariant (omega (arith, at-loop.invariant, at_fields.ensures)) at_fields.result at_fields.ensures c.requires.2 c.within.result c.within.ensures.0)
 
 pub sum_at-requires-2 : goal.sum_at-requires-2
 sum_at-requires-2 c =
@@ -88,7 +57,7 @@ sum_at-requires-2 c =
     let at-if1 = c.if-n-eq0 in
     let at-loop = c.loop-k in
     let s = sheet_of c.args.sheet.now in
-    (c.requires.0, c.requires.1, omega (arith, at_fields.ensures), bound_below s c.requires.0.1 c.args.r c.requires.1 c.args.n at-if1.false at-loop.k at-loop.rest at-loop.invariant.1 (omega (arith, at-loop.invariant, at_fields.ensures)) at_fields.result at_fields.ensures c.requires.2 c.within.result c.within.ensures.0)
+    (c.requires.0, c.requires.1, omega (arith, at_fields.ensures), bound_below s c.requires.0.1 c.args.r c.requires.1 c.args.n at-if1.false at-loop.k at-loop.rest at-loop.invariant (omega (arith, at-loop.invariant, at_fields.ensures)) at_fields.result at_fields.ensures c.requires.2 c.within.result c.within.ensures.0)
 
 pub returns : goal.returns
 returns c =
@@ -96,4 +65,4 @@ returns c =
     let at-loop = c.loop-k in
     let at_fields = c.fields-fields in
     let s = sheet_of c.args.sheet.now in
-    bound_found s c.requires.0.1 c.args.r c.requires.1 c.args.n at-if1.false at-loop.k at-loop.rest at-loop.invariant.1 (omega (arith, at-loop.invariant, at_fields.ensures)) at_fields.result at_fields.ensures c.requires.2 c.within.result c.within.ensures.0 c.sum_at-2.result c.sum_at-2.ensures
+    bound_found s c.requires.0.1 c.args.r c.requires.1 c.args.n at-if1.false at-loop.k at-loop.rest at-loop.invariant (omega (arith, at-loop.invariant, at_fields.ensures)) at_fields.result at_fields.ensures c.requires.2 c.within.result c.within.ensures.0 c.sum_at-2.result c.sum_at-2.ensures

@@ -3,21 +3,9 @@ use mathlib.Core.Path.{refl}
 use Prim.Native.Nat.{◌+◌, ◌-◌, ◌%◌}
 use native.Mathlib.Omega.{arith}
 use Rattle.model.specs.Sheet.{sheet_of}
-use Rattle.formula.proofs.Small.{letters-few}
 use Rattle.locating.proofs.Laws.{at_first, at_next}
 use Rattle.finding.proofs.Laws.{some-found, not_both_found, tail_found}
 use Rattle.finding.proofs.in_field.Goals as goal
-
-pub letters-letters-requires : goal.letters-letters-requires
-letters-letters-requires c = c.requires.0
-
-pub not_both_count-size-requires : goal.not_both_count-size-requires
-not_both_count-size-requires c =
-    let s = sheet_of c.args.sheet.now in
-    omega (arith, c.letters-letters.ensures, letters-few s c.requires.0.1)
-
-pub overflow_add-size : goal.overflow_add-size
-overflow_add-size c = omega (arith, c.not_both_count-size.ensures)
 
 pub returns-then-n-size-eq0 : goal.returns-then-n-size-eq0
 returns-then-n-size-eq0 c =
@@ -25,25 +13,10 @@ returns-then-n-size-eq0 c =
     let s = sheet_of c.args.sheet.now in
     some-found s c.requires.0.1 c.args.f c.requires.1 c.args.n c.requires.2 at-letters.result c.not_both_count-size.result at-letters.ensures c.not_both_count-size.ensures.0 c.if-n-size-eq0.true
 
-pub overflow_sub-rest : goal.overflow_sub-rest
-overflow_sub-rest c = omega (arith, c.if-n-size-eq0.false)
-
 pub loop-a-init : goal.loop-a-init
 loop-a-init c =
     let at-letters = c.letters-letters in
-    (omega arith, at_first (λ a. at-letters.result - a) (c.args.n % (2 + c.not_both_count-size.result) - 1))
-
-pub overflow_add-result : goal.overflow_add-result
-overflow_add-result c =
-    let at-letters = c.letters-letters in
-    let s = sheet_of c.args.sheet.now in
-    omega (arith, at-letters.ensures, letters-few s c.requires.0.1)
-
-pub overflow_add-result-then-rest-letters : goal.overflow_add-result-then-rest-letters
-overflow_add-result-then-rest-letters c =
-    let at-letters = c.letters-letters in
-    let s = sheet_of c.args.sheet.now in
-    omega (arith, c.if-rest-letters.true, at-letters.ensures, letters-few s c.requires.0.1)
+    at_first (λ a. at-letters.result - a) (c.args.n % (2 + c.not_both_count-size.result) - 1)
 
 pub returns-then-rest-letters : goal.returns-then-rest-letters
 returns-then-rest-letters c =
@@ -52,16 +25,7 @@ returns-then-rest-letters c =
     let at-if1 = c.if-n-size-eq0 in
     let at-loop = c.loop-a in
     let s = sheet_of c.args.sheet.now in
-    not_both_found s c.requires.0.1 c.args.f c.requires.1 c.args.n c.requires.2 at-letters.result at-not-both-count.result at-letters.ensures at-not-both-count.ensures.0 at-if1.false at-loop.a at-loop.rest at-loop.invariant.1 at-loop.invariant.0 c.if-rest-letters.true
-
-pub overflow_sub-rest-in-loop-a-2 : goal.overflow_sub-rest-in-loop-a-2
-overflow_sub-rest-in-loop-a-2 c = omega (arith, c.if-rest-letters.false)
-
-pub overflow_add-a : goal.overflow_add-a
-overflow_add-a c =
-    let at-letters = c.letters-letters in
-    let s = sheet_of c.args.sheet.now in
-    omega (arith, at-letters.ensures, letters-few s c.requires.0.1)
+    not_both_found s c.requires.0.1 c.args.f c.requires.1 c.args.n c.requires.2 at-letters.result at-not-both-count.result at-letters.ensures at-not-both-count.ensures.0 at-if1.false at-loop.a at-loop.rest at-loop.invariant (omega arith) c.if-rest-letters.true
 
 pub loop-a-preserved : goal.loop-a-preserved
 loop-a-preserved c =
@@ -69,7 +33,7 @@ loop-a-preserved c =
     let at-not-both-count = c.not_both_count-size in
     let at-loop = c.loop-a in
     let l = at-letters.result in
-    (omega arith, at_next (λ a. l - a) (c.args.n % (2 + at-not-both-count.result) - 1) at-loop.a at-loop.rest (l - at-loop.a) at-loop.invariant.1 refl c.if-rest-letters.false)
+    at_next (λ a. l - a) (c.args.n % (2 + at-not-both-count.result) - 1) at-loop.a at-loop.rest (l - at-loop.a) at-loop.invariant refl c.if-rest-letters.false
 
 pub returns : goal.returns
 returns c =
@@ -77,4 +41,4 @@ returns c =
     let at-not-both-count = c.not_both_count-size in
     let at-if1 = c.if-n-size-eq0 in
     let s = sheet_of c.args.sheet.now in
-    tail_found s c.requires.0.1 c.args.f c.requires.1 c.args.n c.requires.2 at-letters.result at-not-both-count.result at-letters.ensures at-not-both-count.ensures.0 at-if1.false c.loop-a.a c.loop-a.rest c.loop-a.invariant.1 (omega (arith, c.loop-a.invariant))
+    tail_found s c.requires.0.1 c.args.f c.requires.1 c.args.n c.requires.2 at-letters.result at-not-both-count.result at-letters.ensures at-not-both-count.ensures.0 at-if1.false c.loop-a.a c.loop-a.rest c.loop-a.invariant (omega (arith, c.loop-a.invariant))

@@ -1,13 +1,10 @@
 use mathlib.Core.Path.{◌≡◌}
-use Prim.Native.Nat.{◌+◌, ◌-◌, ◌≤◌}
+use Prim.Native.Nat.{◌+◌}
 use Rattle.model.specs.Lists.{total}
 use Rattle.model.specs.Sheet.{sheet_of}
-use Rattle.formula.specs.Count.{parts, part_counts}
+use Rattle.formula.specs.Count.{part_counts}
 use Rattle.shape.specs.Name.{section_of}
 use Rattle.finding.proofs.in_section.Given as goal
 
 abbrev pub invariant-loop-i : goal.invariant-loop-i
-invariant-loop-i l = (l.i ≤ l.parts) × (total l.i (part_counts (sheet_of l.sheet) (section_of l.section)) + l.rest ≡ l.n)
-
-abbrev pub decreases-loop-i : goal.decreases-loop-i
-decreases-loop-i l = l.parts - l.i
+invariant-loop-i l = total l.i (part_counts (sheet_of l.sheet) (section_of l.section)) + l.rest ≡ l.n
