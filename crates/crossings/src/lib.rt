@@ -11,7 +11,6 @@ ghost use Rattle.crossings.specs.Codes.{past_lines, letter_lines, open_lines, cr
 
 use dimacs::clause_line;
 use matching::{put_matches, put_unlike};
-use scan::wide;
 use shape::{FIRST_PLACE, USED};
 
 // A location where the left side is used up: F, and C before it where a place is on the right.
@@ -60,7 +59,7 @@ fn put_letter(
     let y_blank = y + 2 * l;
     let c = clause_line(buf, at, &[not_here, y_blank + 1, here + 2]);
     let d = clause_line(buf, c, &[not_here, y_blank, past_both]);
-    clause_line(buf, d, &[not_here, y_blank, y + 2 * wide(a)])
+    clause_line(buf, d, &[not_here, y_blank, y + 2 * usize::from(a)])
 }
 
 // A location with a place on the left: B, and then F, or C where a place is on the right, D and E.
@@ -86,7 +85,7 @@ fn put_open(
     }
     let past_both = past_left + 2;
     if v < FIRST_PLACE {
-        let n = wide(v);
+        let n = usize::from(v);
         let d = clause_line(buf, b, &[not_here, x_blank, past_both]);
         let e = put_unlike(buf, d, here, x, 0, n);
         return put_unlike(buf, e, here, x, n + 1, l - n - 1);

@@ -7,7 +7,6 @@ ghost use Rattle.shape.specs.Bytes.{side_of};
 ghost use Rattle.dimacs.specs.Codes.{large_code};
 ghost use Rattle.crossings.specs.Codes.{past_lines, letter_lines, open_lines, cross_lines, Crossed};
 
-use scan::wide;
 use shape::{FIRST_PLACE, USED};
 use size_line::{ENDING, literal_size, matches_size, unlike_size};
 
@@ -48,7 +47,7 @@ fn letter_size(l: usize, down: usize, here: usize, a: u8, v: u8, y: usize) -> us
     let blank = literal_size(y_blank);
     let c = line + literal_size(y_blank + 1) + literal_size(here + 2);
     let d = line + blank + past_both;
-    c + d + line + blank + literal_size(y + 2 * wide(a))
+    c + d + line + blank + literal_size(y + 2 * usize::from(a))
 }
 
 // A location with a place on the left: B, and then F, or C where a place is on the right, D and E.
@@ -65,7 +64,7 @@ fn open_size(l: usize, down: usize, here: usize, x: usize, v: u8, y: usize) -> u
     }
     let past_both = literal_size(here + down + 2);
     if v < FIRST_PLACE {
-        let n = wide(v);
+        let n = usize::from(v);
         let d = line + blank + past_both;
         let e = unlike_size(here, x, 0, n);
         return b + d + e + unlike_size(here, x, n + 1, l - n - 1);

@@ -93,14 +93,14 @@ c-of c = c.before.before.before.before.before
 after-cd : (c : lts.After-clause_line5 tie.the-claims reads.Pre reads.Post) → Still (start-c (c-of c)) (match (start-c (c-of c)) ((start-c (c-of c)).args.y + 2 * (start-c (c-of c)).args.a)) [] c.clause_line-d.new.buf c.clause_line-d.result
 after-cd c = next (after-c (c-of c)) c.clause_line-d.ensures c.clause_line-d.auto.buf
 
-abbrev place-d-of : lts.After-wide tie.the-claims reads.Pre reads.Post → lts.After-clause_line5 tie.the-claims reads.Pre reads.Post
+abbrev place-d-of : lts.After-from tie.the-claims reads.Pre reads.Post → lts.After-clause_line5 tie.the-claims reads.Pre reads.Post
 place-d-of c = c.before.before.before.before
 
-abbrev start-wide : lts.After-wide tie.the-claims reads.Pre reads.Post → lts.Start tie.the-claims reads.Pre reads.Post
+abbrev start-wide : lts.After-from tie.the-claims reads.Pre reads.Post → lts.Start tie.the-claims reads.Pre reads.Post
 start-wide c = start-c (c-of (place-d-of c))
 
-last : (c : lts.After-wide tie.the-claims reads.Pre reads.Post) → Still (start-wide c) (match (start-wide c) ((start-wide c).args.y + 2 * c.wide.result)) [] (place-d-of c).clause_line-d.new.buf (place-d-of c).clause_line-d.result
-last c = subst (λ n. Still (start-wide c) (match (start-wide c) ((start-wide c).args.y + 2 * n)) [] (place-d-of c).clause_line-d.new.buf (place-d-of c).clause_line-d.result) (sym c.wide.ensures.0) (after-cd (place-d-of c))
+last : (c : lts.After-from tie.the-claims reads.Pre reads.Post) → Still (start-wide c) (match (start-wide c) ((start-wide c).args.y + 2 * c.from.result)) [] (place-d-of c).clause_line-d.new.buf (place-d-of c).clause_line-d.result
+last c = subst (λ n. Still (start-wide c) (match (start-wide c) ((start-wide c).args.y + 2 * n)) [] (place-d-of c).clause_line-d.new.buf (place-d-of c).clause_line-d.result) (sym c.from.ensures) (after-cd (place-d-of c))
 
 pub overflow_add-not_here : goal.overflow_add-not_here
 overflow_add-not_here c = omega (arith, c.requires.0)
@@ -152,11 +152,11 @@ clause_line-c-requires c = fits (place c.before.before)
 pub clause_line-d-requires : goal.clause_line-d-requires
 clause_line-d-requires c = fits (after-c c.before.before.before.before)
 
-pub overflow_mul-wide : goal.overflow_mul-wide
-overflow_mul-wide c = omega (arith, (start-wide c).requires.0, (start-wide c).requires.1, c.wide.ensures.0)
+pub overflow_mul-from : goal.overflow_mul-from
+overflow_mul-from c = omega (arith, (start-wide c).requires.0, (start-wide c).requires.1, c.from.ensures)
 
 pub overflow_add-y : goal.overflow_add-y
-overflow_add-y c = omega (arith, (start-wide c).requires.0, (start-wide c).requires.1, c.wide.ensures.0)
+overflow_add-y c = omega (arith, (start-wide c).requires.0, (start-wide c).requires.1, c.from.ensures)
 
 pub clause_line-requires-2 : goal.clause_line-requires-2
 clause_line-requires-2 c = fits (last c.before)

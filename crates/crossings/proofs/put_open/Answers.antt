@@ -73,35 +73,35 @@ unfolding joined
 ended c = after-b (b-of c.before) _ _ _ (says_used _ c.if-v-eq-USED.true) refl
 
 -- D, and E before the letter and after it
-abbrev b-wide : lts.After-wide tie.the-claims reads.Pre reads.Post → lts.After-clause_line tie.the-claims reads.Pre reads.Post
+abbrev b-wide : lts.After-from tie.the-claims reads.Pre reads.Post → lts.After-clause_line tie.the-claims reads.Pre reads.Post
 b-wide c = b-of c.before.before.before
 
-abbrev start-wide : lts.After-wide tie.the-claims reads.Pre reads.Post → lts.Start tie.the-claims reads.Pre reads.Post
+abbrev start-wide : lts.After-from tie.the-claims reads.Pre reads.Post → lts.Start tie.the-claims reads.Pre reads.Post
 start-wide c = start_of (b-wide c)
 
-letter : (c : lts.After-wide tie.the-claims reads.Pre reads.Post) → Still (start-wide c) (codes_line (not-here (start-wide c) ∷ x-blank (start-wide c) ∷ past-both (start-wide c) ∷ []))
-    (unlike (start-wide c) 0 c.wide-n.result ∷ unlike (start-wide c) (c.wide-n.result + 1) ((start-wide c).args.l - c.wide-n.result - 1) ∷ []) (b-wide c).clause_line-b.new.buf (b-wide c).clause_line-b.result
+letter : (c : lts.After-from tie.the-claims reads.Pre reads.Post) → Still (start-wide c) (codes_line (not-here (start-wide c) ∷ x-blank (start-wide c) ∷ past-both (start-wide c) ∷ []))
+    (unlike (start-wide c) 0 c.from-n.result ∷ unlike (start-wide c) (c.from-n.result + 1) ((start-wide c).args.l - c.from-n.result - 1) ∷ []) (b-wide c).clause_line-b.new.buf (b-wide c).clause_line-b.result
 unfolding joined
-letter c = after-b (b-wide c) _ _ _ (says_letter _ c.if-v-lt-FIRST_PLACE.true ∙ ap at_letter (sym c.wide-n.ensures.0)) refl
+letter c = after-b (b-wide c) _ _ _ (says_letter _ c.if-v-lt-FIRST_PLACE.true ∙ ap at_letter (sym c.from-n.ensures)) refl
 
 -- the letter is one of l
-inside : (c : lts.After-wide tie.the-claims reads.Pre reads.Post) → c.wide-n.result < (start-wide c).args.l
-inside c = rw c.wide-n.ensures.0 (subst (SideIn (start-wide c).args.l) (says_letter _ c.if-v-lt-FIRST_PLACE.true) (start-wide c).requires.1)
+inside : (c : lts.After-from tie.the-claims reads.Pre reads.Post) → c.from-n.result < (start-wide c).args.l
+inside c = rw c.from-n.ensures (subst (SideIn (start-wide c).args.l) (says_letter _ c.if-v-lt-FIRST_PLACE.true) (start-wide c).requires.1)
 
-abbrev wide-d : lts.After-clause_line3 tie.the-claims reads.Pre reads.Post → lts.After-wide tie.the-claims reads.Pre reads.Post
+abbrev wide-d : lts.After-clause_line3 tie.the-claims reads.Pre reads.Post → lts.After-from tie.the-claims reads.Pre reads.Post
 wide-d c = c.before.before.before
 
-after-d : (c : lts.After-clause_line3 tie.the-claims reads.Pre reads.Post) → Still (start-wide (wide-d c)) (unlike (start-wide (wide-d c)) 0 (wide-d c).wide-n.result)
-    (unlike (start-wide (wide-d c)) ((wide-d c).wide-n.result + 1) ((start-wide (wide-d c)).args.l - (wide-d c).wide-n.result - 1) ∷ []) c.clause_line-d.new.buf c.clause_line-d.result
+after-d : (c : lts.After-clause_line3 tie.the-claims reads.Pre reads.Post) → Still (start-wide (wide-d c)) (unlike (start-wide (wide-d c)) 0 (wide-d c).from-n.result)
+    (unlike (start-wide (wide-d c)) ((wide-d c).from-n.result + 1) ((start-wide (wide-d c)).args.l - (wide-d c).from-n.result - 1) ∷ []) c.clause_line-d.new.buf c.clause_line-d.result
 after-d c = next (letter (wide-d c)) c.clause_line-d.ensures c.clause_line-d.auto.buf
 
 abbrev d-of : lts.After-put_unlike tie.the-claims reads.Pre reads.Post → lts.After-clause_line3 tie.the-claims reads.Pre reads.Post
 d-of c = c.before.before.before.before
 
-abbrev wide-e : lts.After-put_unlike tie.the-claims reads.Pre reads.Post → lts.After-wide tie.the-claims reads.Pre reads.Post
+abbrev wide-e : lts.After-put_unlike tie.the-claims reads.Pre reads.Post → lts.After-from tie.the-claims reads.Pre reads.Post
 wide-e c = wide-d (d-of c)
 
-after-e : (c : lts.After-put_unlike tie.the-claims reads.Pre reads.Post) → Still (start-wide (wide-e c)) (unlike (start-wide (wide-e c)) ((wide-e c).wide-n.result + 1) ((start-wide (wide-e c)).args.l - (wide-e c).wide-n.result - 1)) [] c.put_unlike-e.new.buf c.put_unlike-e.result
+after-e : (c : lts.After-put_unlike tie.the-claims reads.Pre reads.Post) → Still (start-wide (wide-e c)) (unlike (start-wide (wide-e c)) ((wide-e c).from-n.result + 1) ((start-wide (wide-e c)).args.l - (wide-e c).from-n.result - 1)) [] c.put_unlike-e.new.buf c.put_unlike-e.result
 after-e c = next (after-d (d-of c)) c.put_unlike-e.ensures c.put_unlike-e.auto.buf
 
 -- C, D and E where a place is on the right

@@ -39,7 +39,7 @@ returns c =
     let second = third.before.before in
     let a = second.args in
     let lines = ap (λ w. length (letter_lines a.l a.down a.here a.a w a.y)) (says_field a.v (omega (arith, third.if-v-lt-FIRST_PLACE.false)) second.if-v-eq-USED.false) in
-    let letter = ap (λ n. code_size (a.y + 2 * n)) c.wide.ensures.0 in (
+    let letter = ap (λ n. code_size (a.y + 2 * n)) c.from.ensures in (
       omega (arith, letter-field a.l a.down a.here a.y a.a, second.literal_size-line.ensures.0, second.literal_size-past_both.ensures.0, third.literal_size-blank.ensures.0, fourth.literal_size.ensures.0, fifth.literal_size-2.ensures.0, c.literal_size-3.ensures.0),
       omega (arith, second.literal_size-line.ensures.1, second.literal_size-past_both.ensures.1, third.literal_size-blank.ensures.1, fourth.literal_size.ensures.1, fifth.literal_size-2.ensures.1, c.literal_size-3.ensures.1),
     )

@@ -14,14 +14,14 @@ use Rattle.size_crossing.proofs.open_size.Reads as reads
 use Rattle.size_crossing.proofs.open_size.Tie as tie
 
 -- a letter on the right is one of l
-abbrev start-wide : lts.After-wide tie.the-claims reads.Pre reads.Post → lts.Start tie.the-claims reads.Pre reads.Post
+abbrev start-wide : lts.After-from tie.the-claims reads.Pre reads.Post → lts.Start tie.the-claims reads.Pre reads.Post
 start-wide c = c.before.before.before.before.before.before.before.before
 
-below : (c : lts.After-wide tie.the-claims reads.Pre reads.Post) → c.wide-n.result < (start-wide c).args.l
+below : (c : lts.After-from tie.the-claims reads.Pre reads.Post) → c.from-n.result < (start-wide c).args.l
 below c =
     let start = start-wide c in
     let inside = subst (SideIn start.args.l) (says_letter start.args.v c.if-v-lt-FIRST_PLACE.true) start.requires.1 in
-    omega (arith, c.wide-n.ensures.0)
+    omega (arith, c.from-n.ensures)
 
 -- and else there is a place
 abbrev from-eighth : lts.After-literal_size8 tie.the-claims reads.Pre reads.Post → lts.Start tie.the-claims reads.Pre reads.Post
@@ -57,9 +57,9 @@ returns-then-v-lt-FIRST_PLACE c =
     let third = fourth.before in
     let second = third.before in
     let a = second.args in
-    let n = here.wide-n.ensures.0 in
+    let n = here.from-n.ensures in
     let lines = ap (λ w. length (open_lines a.l a.down a.here a.x w a.y)) (says_letter a.v here.if-v-lt-FIRST_PLACE.true ∙ ap at_letter (sym n)) in (
-      omega (arith, open_letter a.l a.down a.here a.y a.x here.wide-n.result, second.literal_size-line.ensures.0, second.literal_size-blank.ensures.0, third.literal_size.ensures.0, fourth.literal_size-2.ensures.0, fifth.literal_size-past_both.ensures.0, lower.unlike_size-e.ensures.0, c.unlike_size.ensures.0),
+      omega (arith, open_letter a.l a.down a.here a.y a.x here.from-n.result, second.literal_size-line.ensures.0, second.literal_size-blank.ensures.0, third.literal_size.ensures.0, fourth.literal_size-2.ensures.0, fifth.literal_size-past_both.ensures.0, lower.unlike_size-e.ensures.0, c.unlike_size.ensures.0),
       omega (arith, below here, second.requires.0.letters, second.literal_size-line.ensures.1, second.literal_size-blank.ensures.1, third.literal_size.ensures.1, fourth.literal_size-2.ensures.1, fifth.literal_size-past_both.ensures.1, lower.unlike_size-e.ensures.1, c.unlike_size.ensures.1),
     )
 
