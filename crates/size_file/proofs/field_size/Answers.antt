@@ -1,6 +1,5 @@
 -- `size_file::field_size` meets its contract. The loop's invariant: the sum is that of the first c places. Assumes nothing.
 use mathlib.Core.Path.{◌≡◌, sym, ap, ◌∙◌}
-use Prim.Native.Nat.{◌-◌}
 use native.Mathlib.Omega.{arith}
 use lib.ListN.{length}
 use Rattle.model.specs.Lists.{each, up_to}

@@ -1,8 +1,8 @@
 use mathlib.Core.Path.{◌≡◌}
-use Prim.Native.Nat.{◌-◌, ◌*◌, ◌≤◌}
+use Prim.Native.Nat.{◌*◌, ◌≤◌}
 use lib.ListN.{length}
 use Rattle.model.specs.Lists.{each, up_to}
-use Rattle.model.specs.Sheet.{sheet_of, limit}
+use Rattle.model.specs.Sheet.{sheet_of}
 use Rattle.rendering.specs.Lines.{place_lines}
 use Rattle.size_file.proofs.field_size.Given as goal
 

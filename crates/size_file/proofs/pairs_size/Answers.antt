@@ -1,7 +1,7 @@
 -- `size_file::pairs_size` meets its contract. The loop's invariant: the sum is that of the pairs whose first value is below a. Assumes nothing.
 use mathlib.Core.Path.{◌≡◌, sym, ap, ◌∙◌}
 use mathlib.Core.List.{List}
-use Prim.Native.Nat.{ℕ, suc, ◌-◌}
+use Prim.Native.Nat.{ℕ, suc}
 use native.Mathlib.Omega.{arith}
 use lib.ListN.{length}
 use Rattle.model.specs.Lists.{each, up_to}
@@ -31,9 +31,6 @@ unlike_size-sum-requires c =
 
 pub overflow_add-sum : goal.overflow_add-sum
 overflow_add-sum c = omega (arith, c.loop-a.invariant, c.unlike_size-sum.ensures.1, c.loop-a-test.true, c.requires)
-
-pub overflow_add-a-in-loop-a : goal.overflow_add-a-in-loop-a
-overflow_add-a-in-loop-a c = omega (arith, c.loop-a-test.true, c.requires)
 
 pub loop-a-preserved : goal.loop-a-preserved
 loop-a-preserved c =

@@ -1,9 +1,8 @@
 use mathlib.Core.Path.{◌≡◌}
-use Prim.Native.Nat.{◌-◌, ◌*◌, ◌≤◌}
+use Prim.Native.Nat.{◌*◌, ◌≤◌}
 use lib.ListN.{length}
 use Rattle.model.specs.Lists.{each, up_to}
 use Rattle.model.specs.Sheet.{sheet_of}
-use Rattle.formula.specs.Count.{parts}
 use Rattle.shape.specs.Name.{section_of}
 use Rattle.rendering.specs.Lines.{part_lines}
 use Rattle.size_file.proofs.section_size.Given as goal
