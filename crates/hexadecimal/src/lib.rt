@@ -1,31 +1,7 @@
-// Text that gives bytes in hexadecimal, as the programs take their vectors: where a part of it ends
-// and the next begins, and which bytes it gives.
+// Text that gives bytes in hexadecimal, as the programs take their vectors.
 #![tactic(auto)]
 
-ghost use Rattle.std.specs.Prelude.{◌≡◌, ◌≤◌, length, take};
-
-// What `digit` answers for a byte that is no digit.
-const NO_DIGIT: u8 = 16;
-
-// The index of the first `x` at or after `from`, or the length of `text` where there is none. The
-// last clause follows from the one before it, and is what `&text[..r]` asks of a caller.
-pub fn find(text: &[u8], from: usize, x: u8) -> usize
-    requires { from ≤ length text.now }
-    ensures lower_bound { from ≤ result }
-    ensures upper_bound { result ≤ length text.now }
-    ensures value { result ≡ length (take result text.now) }
-{
-    scan::find(text, from, x)
-}
-
-// The index after `at`, but none past the end of `text`.
-pub fn after(text: &[u8], at: usize) -> usize
-    requires { at ≤ length text.now }
-    ensures lower_bound { at ≤ result }
-    ensures upper_bound { result ≤ length text.now }
-{
-    if at < text.len() { at + 1 } else { at }
-}
+ghost use Rattle.std.specs.Prelude.{◌≡◌, ◌<◌, ◌≤◌, IfSome, length, take};
 
 // Puts the bytes that the hexadecimal digits of `text` spell at the front of `out`, as many as it
 // has room for, and answers how many. What is no digit is passed over, and so is a last half byte.
@@ -35,29 +11,31 @@ pub fn decode(text: &[u8], out: &mut [u8]) -> usize
     ensures value { result ≡ length (take result out.new) }
 {
     let mut n = 0;
-    let mut high = NO_DIGIT;
-    let mut i = 0;
-    while i < text.len() && n < out.len() {
-        let low = digit(text[i]);
-        if low < NO_DIGIT {
-            if high < NO_DIGIT {
-                out[n] = high * 16 + low;
+    let mut high = None;
+    for x in text {
+        if n == out.len() {
+            return n;
+        }
+        if let Some(low) = digit(*x) {
+            if let Some(first) = high {
+                out[n] = first * 16 + low;
                 n += 1;
-                high = NO_DIGIT;
+                high = None;
             } else {
-                high = low;
+                high = Some(low);
             }
         }
-        i += 1;
     }
     n
 }
 
-// The value of a hexadecimal digit, in upper case, or `NO_DIGIT` for any other byte.
-fn digit(x: u8) -> u8 {
+// The value of a hexadecimal digit, in upper case.
+fn digit(x: u8) -> Option<u8>
+    ensures { IfSome result (λ n. n < 16) }
+{
     match x {
-        b'0'..=b'9' => x - b'0',
-        b'A'..=b'F' => x - b'A' + 10,
-        _ => NO_DIGIT,
+        b'0'..=b'9' => Some(x - b'0'),
+        b'A'..=b'F' => Some(x - b'A' + 10),
+        _ => None,
     }
 }

@@ -8,13 +8,10 @@ ghost use Rattle.model.specs.Sheet.{symbol_byte, encode_equation, encode_constra
 ghost use Rattle.model.specs.Sheet as model;
 ghost use Rattle.parts.specs.Counts.{counts_of};
 
-use scan::{
-    CONSTRAINT_COUNT, EQUATION_COUNT, FIELD_COUNT, HEADER, LETTER_COUNT, signed_byte, signed_pair,
-    stretch, wide,
-};
+use scan::{CONSTRAINT_COUNT, EQUATION_COUNT, FIELD_COUNT, HEADER, LETTER_COUNT};
 
 // The four counts of a sheet.
-#[derive(Clone, Copy)]
+#[derive(Clone, Copy, Debug, PartialEq, Eq)]
 pub struct Counts {
     pub letters: u8,
     pub fields: u8,
@@ -48,7 +45,7 @@ pub fn limit(sheet: &[u8], f: usize) -> u8
     requires { Accepted sheet.now × (f < length (sheet_of sheet.now).limits) }
     ensures { result ≡ model.limit (sheet_of sheet.now) f }
 {
-    let letters = wide(sheet[LETTER_COUNT]);
+    let letters = usize::from(sheet[LETTER_COUNT]);
     sheet[HEADER + letters + f]
 }
 
@@ -57,15 +54,13 @@ fn entry_at(sheet: &[u8], p: usize) -> usize
     requires { Accepted sheet.now × (p ≤ length (sheet_of sheet.now).equations) }
     ensures { Holds sheet.now result (each (drop p (sheet_of sheet.now).equations) encode_equation ++ each (sheet_of sheet.now).constraints encode_constraint) }
 {
-    let letters = wide(sheet[LETTER_COUNT]);
-    let fields = wide(sheet[FIELD_COUNT]);
+    let letters = usize::from(sheet[LETTER_COUNT]);
+    let fields = usize::from(sheet[FIELD_COUNT]);
     let mut at = HEADER + letters + fields;
-    let mut i: usize = 0;
-    while i < p {
-        let left = wide(sheet[at]);
-        let right = wide(sheet[at + 1]);
-        at = at + 2 + left + right;
-        i += 1;
+    for _ in 0..p {
+        let left = usize::from(sheet[at]);
+        let right = usize::from(sheet[at + 1]);
+        at += 2 + left + right;
     }
     at
 }
@@ -76,12 +71,14 @@ pub fn template<'a>(sheet: &'a [u8], p: usize, side: usize) -> &'a [u8]
     ensures { result.now ≡ map symbol_byte (model.template (sheet_of sheet.now) p side) }
 {
     let at = entry_at(sheet, p);
-    let left = wide(sheet[at]);
-    let right = wide(sheet[at + 1]);
+    let left = usize::from(sheet[at]);
+    let right = usize::from(sheet[at + 1]);
+    let middle = at + 2 + left;
     if side == 0 {
-        return stretch(sheet, at + 2, left);
+        &sheet[at + 2..middle]
+    } else {
+        &sheet[middle..middle + right]
     }
-    stretch(sheet, at + 2 + left, right)
 }
 
 // The offset of constraint r.
@@ -89,8 +86,8 @@ fn constraint_at(sheet: &[u8], r: usize) -> usize
     requires { Accepted sheet.now × (r < length (sheet_of sheet.now).constraints) }
     ensures { Holds sheet.now result (encode_constraint (model.constraint (sheet_of sheet.now) r)) }
 {
-    let fields = wide(sheet[FIELD_COUNT]);
-    let equations = wide(sheet[EQUATION_COUNT]);
+    let fields = usize::from(sheet[FIELD_COUNT]);
+    let equations = usize::from(sheet[EQUATION_COUNT]);
     let first = entry_at(sheet, equations);
     first + r * (fields + 2)
 }
@@ -101,7 +98,7 @@ pub fn coefficient(sheet: &[u8], r: usize, f: usize) -> i8
     ensures { result ≡ model.coefficient (model.constraint (sheet_of sheet.now) r) f }
 {
     let at = constraint_at(sheet, r);
-    signed_byte(sheet[at + f])
+    sheet[at + f].cast_signed()
 }
 
 // The limit of constraint r.
@@ -109,7 +106,7 @@ pub fn most(sheet: &[u8], r: usize) -> i16
     requires { Accepted sheet.now × (r < length (sheet_of sheet.now).constraints) }
     ensures { result ≡ (model.constraint (sheet_of sheet.now) r).most }
 {
-    let fields = wide(sheet[FIELD_COUNT]);
+    let fields = usize::from(sheet[FIELD_COUNT]);
     let at = constraint_at(sheet, r) + fields;
-    signed_pair(sheet[at], sheet[at + 1])
+    i16::from_be_bytes([sheet[at], sheet[at + 1]])
 }

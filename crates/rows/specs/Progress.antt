@@ -1,13 +1,11 @@
 -- How far a row came, in the model's words. What was read is not said again: the bytes passed over say it.
-use Rattle.std.specs.Prelude.{◌≡◌, List, ℕ, ◌≤◌, length, drop}
+use Rattle.std.specs.Prelude.{◌≡◌, List, ℕ, ◌≤◌, length, drop, Result, Ok, Err}
 use Rattle.model.specs.Sheet as model
 use Rattle.model.specs.Sheet.{Step, got, fault, letter_byte, limit_byte, count_byte, template_byte, coefficient_byte, most_byte}
 use Rattle.rows.specs.declared.Fault.{Fault}
 use Rattle.rows.specs.declared.Fault.TheVariants as faults
 use Rattle.rows.specs.declared.Role.{Role}
 use Rattle.rows.specs.declared.Role.TheVariants.{Letter, Limit, SymbolCount, Symbol, Coefficient, Most}
-use Rattle.rows.specs.declared.Progress.{Progress}
-use Rattle.rows.specs.declared.Progress.TheVariants.{At, Stopped}
 
 -- "8 the next byte needed is missing; 10 letter out of range or not rising; 11 limit; 12 symbol count; 13 symbol; 14 width ..; 15 coefficient"
 abbrev pub number_of : Fault → ℕ
@@ -28,15 +26,15 @@ role_of Coefficient = coefficient_byte
 role_of Most = most_byte
 
 -- the bytes that are left, or the fault
-abbrev pub left : List ℕ → Progress → Step Unit
-left b (At e) = got tt (drop e b)
-left b (Stopped f) = fault (number_of f)
+abbrev pub left : List ℕ → Result ℕ Fault → Step Unit
+left b (Ok e) = got tt (drop e b)
+left b (Err f) = fault (number_of f)
 
 -- an offset that was reached is this one, and within the sheet
-abbrev pub HasLanded : List ℕ → ℕ → Progress → Type 0
-HasLanded b n (At e) = (e ≡ n) × (n ≤ length b)
-HasLanded b n (Stopped f) = Unit
+abbrev pub HasLanded : List ℕ → ℕ → Result ℕ Fault → Type 0
+HasLanded b n (Ok e) = (e ≡ n) × (n ≤ length b)
+HasLanded b n (Err f) = Unit
 
-abbrev pub within : List ℕ → Progress → Type 0
-within b (At e) = e ≤ length b
-within b (Stopped f) = Unit
+abbrev pub within : List ℕ → Result ℕ Fault → Type 0
+within b (Ok e) = e ≤ length b
+within b (Err f) = Unit

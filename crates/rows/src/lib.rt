@@ -6,10 +6,10 @@ ghost use Rattle.model.specs.Sheet.{letter_byte, template_byte, coefficient_byte
 ghost use Rattle.model.specs.Sheet as model;
 ghost use Rattle.rows.specs.Progress.{number_of, left, role_of, HasLanded};
 
-use scan::{FIRST_FIELD, signed_byte};
+use scan::FIRST_FIELD;
 
 // A fault that the walk can meet.
-#[derive(Clone, Copy)]
+#[derive(Clone, Copy, Debug, PartialEq, Eq)]
 pub enum Fault {
     Missing,
     Letter,
@@ -21,7 +21,7 @@ pub enum Fault {
 }
 
 // What a byte of the walk stands for. A symbol's role has the letter count and the field count.
-#[derive(Clone, Copy)]
+#[derive(Clone, Copy, Debug, PartialEq, Eq)]
 pub enum Role {
     Letter,
     Limit,
@@ -31,14 +31,7 @@ pub enum Role {
     Most,
 }
 
-// How far the walk came: to this offset, or no further than a fault.
-#[derive(Clone, Copy)]
-pub enum Progress {
-    At(usize),
-    Stopped(Fault),
-}
-
-// Document 01's ranges: a letter's byte, a limit, a symbol count, a coefficient.
+// Document 01's ranges: a letter's byte, a limit, a symbol count, a coefficient without its sign.
 const LEAST_LETTER: u8 = 33;
 
 const GREATEST_LETTER: u8 = 126;
@@ -47,45 +40,27 @@ const GREATEST_LIMIT: u8 = 8;
 
 const MOST_SYMBOLS: u8 = 12;
 
-const LEAST_COEFFICIENT: i8 = -4;
-
-const GREATEST_COEFFICIENT: i8 = 4;
+const GREATEST_COEFFICIENT: u8 = 4;
 
 // Whether x is a letter's byte, above the one before it.
 fn letter_passes(before: u8, x: u8) -> bool
     ensures { result ≡ passes letter_byte before x }
 {
-    if x < LEAST_LETTER {
-        return false;
-    }
-    if GREATEST_LETTER < x {
-        return false;
-    }
-    before < x
+    (LEAST_LETTER..=GREATEST_LETTER).contains(&x) && before < x
 }
 
 // Whether x is a symbol of a sheet with so many letters and fields.
 fn symbol_passes(letters: u8, fields: u8, x: u8) -> bool
     ensures { result ≡ passes (template_byte letters fields) 0 x }
 {
-    if x < letters {
-        return true;
-    }
-    if x < FIRST_FIELD {
-        return false;
-    }
-    x - FIRST_FIELD < fields
+    x < letters || x >= FIRST_FIELD && x - FIRST_FIELD < fields
 }
 
 // Whether x is a coefficient's byte.
 fn coefficient_passes(x: u8) -> bool
     ensures { result ≡ passes coefficient_byte 0 x }
 {
-    let c = signed_byte(x);
-    if c < LEAST_COEFFICIENT {
-        return false;
-    }
-    c <= GREATEST_COEFFICIENT
+    x.cast_signed().unsigned_abs() <= GREATEST_COEFFICIENT
 }
 
 // Whether a byte of this role may follow the byte before it in its row (0 for the first).
@@ -116,24 +91,22 @@ fn role_fault(role: Role) -> Fault
     }
 }
 
-// A row of n bytes of one role from an offset on: past its end, or the first fault.
-pub fn row(sheet: &[u8], role: Role, at: usize, n: usize) -> Progress
+// A row of n bytes of one role from an offset on: the offset past its end, or the first fault.
+pub fn row(sheet: &[u8], role: Role, at: usize, n: usize) -> Result<usize, Fault>
     requires { at ≤ length sheet.now }
     ensures result_value { left sheet.now result ≡ rest (model.row (role_of role) 0 n (drop at sheet.now)) }
     ensures landed { HasLanded sheet.now (at + n) result }
 {
     let mut before: u8 = 0;
-    let mut i: usize = 0;
-    while i < n {
+    for i in 0..n {
         if sheet.len() - at <= i {
-            return Progress::Stopped(Fault::Missing);
+            return Err(Fault::Missing);
         }
         let x = sheet[at + i];
         if !role_passes(role, before, x) {
-            return Progress::Stopped(role_fault(role));
+            return Err(role_fault(role));
         }
         before = x;
-        i += 1;
     }
-    Progress::At(at + n)
+    Ok(at + n)
 }

@@ -8,27 +8,14 @@ ghost use Rattle.model.specs.Sheet.{signed8, signed16};
 pub fn starts_with(s: &[u8], mark: &[u8]) -> bool
     ensures { result ≡ starts_with mark.now s.now }
 {
-    let mut i: usize = 0;
-    while i < mark.len() {
-        if s.len() <= i {
-            return false;
-        }
-        if s[i] != mark[i] {
-            return false;
-        }
-        i += 1;
-    }
-    true
+    s.starts_with(mark)
 }
 
 // Whether two byte strings are the same.
 pub fn same(left: &[u8], right: &[u8]) -> bool
     ensures { result ≡ lists.same left.now right.now }
 {
-    if left.len() != right.len() {
-        return false;
-    }
-    starts_with(left, right)
+    left == right
 }
 
 // The offset of the first x at or after an offset, or the length where there is none.
@@ -36,14 +23,10 @@ pub fn find(bytes: &[u8], at: usize, x: u8) -> usize
     requires { at ≤ length bytes.now }
     ensures { (result ≡ at + span x (drop at bytes.now)) × (at ≤ result) × (result ≤ length bytes.now) }
 {
-    let mut i = at;
-    while i < bytes.len() {
-        if bytes[i] == x {
-            return i;
-        }
-        i += 1;
+    match bytes[at..].iter().position(|&b| b == x) {
+        Some(i) => at + i,
+        None => bytes.len(),
     }
-    i
 }
 
 // The n bytes of the sheet from an offset on: the caller's own slice, in part.
@@ -59,10 +42,7 @@ pub fn stretch<'a>(sheet: &'a [u8], at: usize, n: usize) -> &'a [u8]
 pub fn in_range(low: u8, high: u8, n: u8) -> bool
     ensures { result ≡ between low high n }
 {
-    if n < low {
-        return false;
-    }
-    n <= high
+    (low..=high).contains(&n)
 }
 
 // A byte as a number.
@@ -76,19 +56,12 @@ pub fn wide(x: u8) -> usize
 pub fn signed_byte(x: u8) -> i8
     ensures { result ≡ signed8 x }
 {
-    if x < 128 {
-        return x as i8;
-    }
-    ((x as i16) - 256) as i8
+    x.cast_signed()
 }
 
 // Two bytes, the high one first, as a two's complement number.
 pub fn signed_pair(high: u8, low: u8) -> i16
     ensures { result ≡ signed16 high low }
 {
-    let n = (high as u32) * 256 + (low as u32);
-    if n < 32768 {
-        return n as i16;
-    }
-    ((n as i32) - 65536) as i16
+    i16::from_be_bytes([high, low])
 }

@@ -8,11 +8,11 @@ ghost use Rattle.model.specs.Sheet as model;
 ghost use Rattle.rows.specs.Progress.{left, HasLanded, within};
 ghost use Rattle.sections.specs.Sections.{counts_of, limits_in, entry_of, tables_of};
 
-use rows::{Fault, Progress, Role, row};
-use scan::{FIRST_FIELD, HEADER, WIDEST, stretch, wide};
+use rows::{Fault, Role, row};
+use scan::{FIRST_FIELD, HEADER, WIDEST};
 
 // What the walk repeats.
-#[derive(Clone, Copy)]
+#[derive(Clone, Copy, Debug, PartialEq, Eq)]
 pub enum Section {
     Equations,
     Constraints,
@@ -25,9 +25,9 @@ fn cells_of(limits: &[u8], x: u8) -> usize
     if x < FIRST_FIELD {
         return 1;
     }
-    let f = wide(x - FIRST_FIELD);
+    let f = usize::from(x - FIRST_FIELD);
     if f < limits.len() {
-        return wide(limits[f]);
+        return usize::from(limits[f]);
     }
     0
 }
@@ -38,10 +38,8 @@ pub fn width_of(limits: &[u8], symbols: &[u8]) -> usize
     ensures { result ≡ width limits.now (map symbol_of symbols.now) }
 {
     let mut total: usize = 0;
-    let mut i: usize = 0;
-    while i < symbols.len() {
-        total = total + cells_of(limits, symbols[i]);
-        i += 1;
+    for x in symbols {
+        total += cells_of(limits, *x);
     }
     total
 }
@@ -51,64 +49,56 @@ fn narrow(sheet: &[u8], letters: u8, fields: u8, at: usize, n: usize) -> bool
     requires { (9 + letters + fields ≤ length sheet.now) × (at + n ≤ length sheet.now) × (n ≤ 256) }
     ensures { result ≡ leb (width (limits_in sheet.now letters fields) (map symbol_of (take n (drop at sheet.now)))) 24 }
 {
-    let limits = stretch(sheet, HEADER + wide(letters), wide(fields));
-    let symbols = stretch(sheet, at, n);
-    width_of(limits, symbols) <= WIDEST
+    let first = HEADER + usize::from(letters);
+    let limits = &sheet[first..first + usize::from(fields)];
+    width_of(limits, &sheet[at..at + n]) <= WIDEST
 }
 
 // The two templates of an equation, m and n symbols: the symbols of both, then both widths.
-fn sides(sheet: &[u8], letters: u8, fields: u8, at: usize, m: usize, n: usize) -> Progress
+fn sides(
+    sheet: &[u8],
+    letters: u8,
+    fields: u8,
+    at: usize,
+    m: usize,
+    n: usize,
+) -> Result<usize, Fault>
     requires { (9 + letters + fields ≤ length sheet.now) × (at ≤ length sheet.now) × (m ≤ 256) × (n ≤ 256) }
     ensures result_value { left sheet.now result ≡ rest (model.sides letters (limits_in sheet.now letters fields) m n (drop at sheet.now)) }
     ensures within { within sheet.now result }
 {
-    match row(sheet, Role::Symbol(letters, fields), at, m) {
-        Progress::Stopped(f) => Progress::Stopped(f),
-        Progress::At(a) => match row(sheet, Role::Symbol(letters, fields), a, n) {
-            Progress::Stopped(f) => Progress::Stopped(f),
-            Progress::At(e) => {
-                if !narrow(sheet, letters, fields, at, m) {
-                    return Progress::Stopped(Fault::Width);
-                }
-                if !narrow(sheet, letters, fields, a, n) {
-                    return Progress::Stopped(Fault::Width);
-                }
-                Progress::At(e)
-            }
-        },
+    let a = row(sheet, Role::Symbol(letters, fields), at, m)?;
+    let e = row(sheet, Role::Symbol(letters, fields), a, n)?;
+    if !narrow(sheet, letters, fields, at, m) || !narrow(sheet, letters, fields, a, n) {
+        return Err(Fault::Width);
     }
+    Ok(e)
 }
 
 // One equation at an offset: its two symbol counts, then its sides.
-fn equation(sheet: &[u8], letters: u8, fields: u8, at: usize) -> Progress
+fn equation(sheet: &[u8], letters: u8, fields: u8, at: usize) -> Result<usize, Fault>
     requires { (9 + letters + fields ≤ length sheet.now) × (at ≤ length sheet.now) }
     ensures result_value { left sheet.now result ≡ entry_of sheet.now letters fields Section.Equations (drop at sheet.now) }
     ensures within { within sheet.now result }
 {
-    match row(sheet, Role::SymbolCount, at, 2) {
-        Progress::Stopped(f) => Progress::Stopped(f),
-        Progress::At(a) => {
-            let m = wide(sheet[at]);
-            let n = wide(sheet[at + 1]);
-            sides(sheet, letters, fields, a, m, n)
-        }
-    }
+    let a = row(sheet, Role::SymbolCount, at, 2)?;
+    let m = usize::from(sheet[at]);
+    let n = usize::from(sheet[at + 1]);
+    sides(sheet, letters, fields, a, m, n)
 }
 
 // One constraint at an offset: its coefficients and its limit.
-fn constraint(sheet: &[u8], letters: u8, fields: u8, at: usize) -> Progress
+fn constraint(sheet: &[u8], letters: u8, fields: u8, at: usize) -> Result<usize, Fault>
     requires { at ≤ length sheet.now }
     ensures result_value { left sheet.now result ≡ entry_of sheet.now letters fields Section.Constraints (drop at sheet.now) }
     ensures within { within sheet.now result }
 {
-    match row(sheet, Role::Coefficient, at, wide(fields)) {
-        Progress::Stopped(f) => Progress::Stopped(f),
-        Progress::At(a) => row(sheet, Role::Most, a, 2),
-    }
+    let a = row(sheet, Role::Coefficient, at, usize::from(fields))?;
+    row(sheet, Role::Most, a, 2)
 }
 
 // One entry of a section.
-fn entry(sheet: &[u8], section: Section, letters: u8, fields: u8, at: usize) -> Progress
+fn entry(sheet: &[u8], section: Section, letters: u8, fields: u8, at: usize) -> Result<usize, Fault>
     requires { (9 + letters + fields ≤ length sheet.now) × (at ≤ length sheet.now) }
     ensures result_value { left sheet.now result ≡ entry_of sheet.now letters fields section (drop at sheet.now) }
     ensures within { within sheet.now result }
@@ -127,68 +117,43 @@ fn entries(
     fields: u8,
     start: usize,
     n: usize,
-) -> Progress
+) -> Result<usize, Fault>
     requires { (9 + letters + fields ≤ length sheet.now) × (start ≤ length sheet.now) }
     ensures result_value { left sheet.now result ≡ rest (times n (entry_of sheet.now letters fields section) (drop start sheet.now)) }
     ensures within { within sheet.now result }
 {
     let mut at = start;
-    let mut i: usize = 0;
-    while i < n {
-        match entry(sheet, section, letters, fields, at) {
-            Progress::Stopped(f) => {
-                return Progress::Stopped(f);
-            }
-            Progress::At(e) => {
-                at = e;
-            }
-        }
-        i += 1;
+    for _ in 0..n {
+        at = entry(sheet, section, letters, fields, at)?;
     }
-    Progress::At(at)
+    Ok(at)
 }
 
 // The letters and the limits.
-fn tables(sheet: &[u8], letters: u8, fields: u8) -> Progress
+fn tables(sheet: &[u8], letters: u8, fields: u8) -> Result<usize, Fault>
     requires { 9 ≤ length sheet.now }
     ensures result_value { left sheet.now result ≡ rest (tables_of letters fields (drop 9 sheet.now)) }
     ensures landed { HasLanded sheet.now (9 + letters + fields) result }
 {
-    match row(sheet, Role::Letter, HEADER, wide(letters)) {
-        Progress::Stopped(f) => Progress::Stopped(f),
-        Progress::At(a) => row(sheet, Role::Limit, a, wide(fields)),
-    }
+    let a = row(sheet, Role::Letter, HEADER, usize::from(letters))?;
+    row(sheet, Role::Limit, a, usize::from(fields))
 }
 
 // The whole walk, from the header's end on, of a sheet with these counts.
-pub fn walked(sheet: &[u8], letters: u8, fields: u8, equations: u8, constraints: u8) -> Progress
+pub fn walked(
+    sheet: &[u8],
+    letters: u8,
+    fields: u8,
+    equations: u8,
+    constraints: u8,
+) -> Result<usize, Fault>
     requires { 9 ≤ length sheet.now }
     ensures result_value { left sheet.now result ≡ rest (model.walk (counts_of letters fields equations constraints) (drop 9 sheet.now)) }
     ensures within { within sheet.now result }
 {
-    match tables(sheet, letters, fields) {
-        Progress::Stopped(f) => Progress::Stopped(f),
-        Progress::At(a) => {
-            match entries(
-                sheet,
-                Section::Equations,
-                letters,
-                fields,
-                a,
-                wide(equations),
-            ) {
-                Progress::Stopped(f) => Progress::Stopped(f),
-                Progress::At(e) => {
-                    entries(
-                        sheet,
-                        Section::Constraints,
-                        letters,
-                        fields,
-                        e,
-                        wide(constraints),
-                    )
-                }
-            }
-        }
-    }
+    let a = tables(sheet, letters, fields)?;
+    let n = usize::from(equations);
+    let e = entries(sheet, Section::Equations, letters, fields, a, n)?;
+    let r = usize::from(constraints);
+    entries(sheet, Section::Constraints, letters, fields, e, r)
 }

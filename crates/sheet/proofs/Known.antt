@@ -7,9 +7,10 @@ use Rattle.calls.specs.Calls.{reading}
 use Rattle.model.proofs.Known.{accepted_in_range}
 use Rattle.calls.proofs.Read.{reading-accepted}
 use Rattle.sheet.specs.Answer.{answer, IsAdmitted}
-use Rattle.sheet.specs.declared.Reading.{Reading}
-use Rattle.sheet.specs.declared.Reading.TheVariants.{Accepted, Refused}
+use Rattle.std.specs.Prelude.{Result, Ok, Err}
+use Rattle.sheet.specs.declared.Refusal.{Refusal}
+use Rattle.parts.specs.declared.Counts.{Counts}
 
-pub admitted_by : (b : List ℕ) (r : Reading) → Bytes b → answer r ≡ reading b → IsAdmitted b r
-admitted_by b (Accepted c) y e = let h = reading-accepted b (sym e) in (h, accepted_in_range b y h)
-admitted_by b (Refused f) y e = tt
+pub admitted_by : (b : List ℕ) (r : Result Counts Refusal) → Bytes b → answer r ≡ reading b → IsAdmitted b r
+admitted_by b (Ok c) y e = let h = reading-accepted b (sym e) in (h, accepted_in_range b y h)
+admitted_by b (Err f) y e = tt

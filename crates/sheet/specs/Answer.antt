@@ -1,5 +1,5 @@
 -- What the enums of this crate say in document 01's numbers.
-use Rattle.std.specs.Prelude.{List, ℕ, drop}
+use Rattle.std.specs.Prelude.{List, ℕ, drop, Result, Ok, Err}
 use Rattle.model.specs.Sheet as model
 use Rattle.model.specs.Sheet.{Step, got, fault}
 use Rattle.model.specs.Range.{InRange}
@@ -7,8 +7,7 @@ use Rattle.calls.specs.Calls.{Answer, refused, finished, four_counts}
 use Rattle.sheet.specs.declared.Refusal.{Refusal}
 use Rattle.sheet.specs.declared.Refusal.TheVariants.{Short, Mark, Version, LetterCount, FieldCount, EquationCount, ConstraintCount, Missing, LeftOver, Letter, Limit, SymbolCount, Symbol, Width, Coefficient}
 use Rattle.parts.specs.Counts.{counts_of}
-use Rattle.sheet.specs.declared.Reading.{Reading}
-use Rattle.sheet.specs.declared.Reading.TheVariants.{Accepted, Refused}
+use Rattle.parts.specs.declared.Counts.{Counts}
 
 -- "1 under 9 bytes; 2 mark; 3 version; 4 L; 5 V; 6 E; 7 R. .. 8 the next byte needed is missing; 10 letter out of range or not rising; 11 limit;
 -- 12 symbol count; 13 symbol; 14 width ..; 15 coefficient. 9 comes last: bytes left over."
@@ -30,16 +29,16 @@ number_of Width = 14
 number_of Coefficient = 15
 
 -- "The answer is the four counts."
-abbrev pub answer : Reading → Answer
-answer (Accepted c) = finished (four_counts (counts_of c))
-answer (Refused f) = refused (number_of f)
+abbrev pub answer : Result Counts Refusal → Answer
+answer (Ok c) = finished (four_counts (counts_of c))
+answer (Err f) = refused (number_of f)
 
--- the same enum as the answer of a header alone
-abbrev pub opening_of : List ℕ → Reading → Step model.Counts
-opening_of b (Accepted c) = got (counts_of c) (drop 9 b)
-opening_of b (Refused f) = fault (number_of f)
+-- the same type as the answer of a header alone
+abbrev pub opening_of : List ℕ → Result Counts Refusal → Step model.Counts
+opening_of b (Ok c) = got (counts_of c) (drop 9 b)
+opening_of b (Err f) = fault (number_of f)
 
 -- an accepted sheet is within document 01's ranges
-abbrev pub IsAdmitted : List ℕ → Reading → Type 0
-IsAdmitted b (Accepted c) = model.Accepted b × InRange (model.sheet_of b)
-IsAdmitted b (Refused f) = Unit
+abbrev pub IsAdmitted : List ℕ → Result Counts Refusal → Type 0
+IsAdmitted b (Ok c) = model.Accepted b × InRange (model.sheet_of b)
+IsAdmitted b (Err f) = Unit

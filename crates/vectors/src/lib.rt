@@ -2,9 +2,10 @@
 // is a heading and is printed as it is.
 #![tactic(auto)]
 
-ghost use Rattle.std.specs.Prelude.{◌≡◌, ◌≤◌, IfOk, length, min, take};
+ghost use Rattle.std.specs.Prelude.{◌≡◌, ◌≤◌, length, min, take};
 
-use hexadecimal::find;
+use input::read_full;
+use scan::find;
 use std::io;
 
 // Of the standard input the first 65,536 bytes are read.
@@ -17,23 +18,37 @@ pub fn room() -> [u8; MOST_INPUT]
     [0u8; MOST_INPUT]
 }
 
-// Prints each heading from the line at `from` on, and the name of the next vector. Returns where that vector's colon stands, or an index past
-// the text where no vector is left.
-pub fn next(rt: &impl Print, text: &[u8], from: usize) -> io::Result<usize>
-    ensures { IfOk result (λ r. from ≤ r) }
+// Shows each vector of standard input.
+pub fn run<F: FnMut(&[u8]) -> io::Result<()>>(rt: &HostRuntime, show: F) -> io::Result<()>
+    requires { F.IsAlwaysCallable show }
 {
-    let mut at = from;
+    let mut buf = room();
+    let n = read_full(&mut rt.stdin(), &mut buf);
+    show_each(rt, &buf[..n], show)
+}
+
+// Prints each heading of a text, and the name of each vector, and has what the vector asks shown, from its colon on.
+pub fn show_each<F: FnMut(&[u8]) -> io::Result<()>>(
+    rt: &impl Print,
+    text: &[u8],
+    mut show: F,
+) -> io::Result<()>
+    requires { F.IsAlwaysCallable show }
+{
+    let mut at = 0;
     while at < text.len() {
         let end = find(text, at, b'\n');
-        let colon = find(&text[..end], at, b':');
-        rt.write_all(&text[at..colon])?;
-        if colon < end {
-            return Ok(colon);
+        let line = &text[at..end];
+        let colon = find(line, 0, b':');
+        rt.write_all(&line[..colon])?;
+        if colon < line.len() {
+            show(&line[colon..])?;
+        } else {
+            rt.write_all(b"\n")?;
         }
-        rt.write_all(b"\n")?;
         at = end + 1;
     }
-    Ok(at)
+    Ok(())
 }
 
 // Prints that a call is refused, and document 01's number of the refusal.
@@ -43,8 +58,7 @@ pub fn show_refused(rt: &impl Print, number: u8) -> io::Result<()> {
 
 // Prints each byte as two hexadecimal digits.
 pub fn show_bytes(rt: &impl Print, bytes: &[u8]) -> io::Result<()> {
-    for byte in bytes {
-        let x = *byte;
+    for x in bytes {
         print!(rt; "{x:02x}")?;
     }
     Ok(())
@@ -57,6 +71,5 @@ pub fn lent(asked: u8, buf: &[u8]) -> usize
     ensures upper_bound { result ≤ length buf.now }
     ensures value { result ≡ length (take result buf.now) }
 {
-    let n = asked as usize;
-    if n < buf.len() { n } else { buf.len() }
+    usize::from(asked).min(buf.len())
 }

@@ -4,30 +4,16 @@
 // a heading and is printed as it is. The file stdout has document 01's answers.
 #![tactic(auto)]
 
-use hexadecimal::{decode, find};
-use input::read_full;
+use hexadecimal::decode;
 use std::io;
-use vectors::{next, room, show_refused};
+use vectors::{run, show_refused};
 
 // Room for a sheet's bytes. Document 01 accepts none of more than 159.
 const ROOM: usize = 256;
 
 // Shows each vector of standard input, of which the first 65,536 bytes are read.
 fn main(rt: HostRuntime) -> io::Result<()> {
-    let mut buf = room();
-    let n = read_full(&mut rt.stdin(), &mut buf);
-    show_vectors(&rt, &buf[..n])
-}
-
-// Shows each vector of a text.
-fn show_vectors(rt: &impl Print, text: &[u8]) -> io::Result<()> {
-    let mut at = next(rt, text, 0)?;
-    while at < text.len() {
-        let end = find(text, at, b'\n');
-        show_vector(rt, &text[at..end])?;
-        at = next(rt, text, end + 1)?;
-    }
-    Ok(())
+    run(&rt, |vector| show_vector(&rt, vector))
 }
 
 // Prints what reading a sheet answers.
@@ -40,28 +26,20 @@ fn show_vector(rt: &impl Print, text: &[u8]) -> io::Result<()> {
 
 // Prints what reading a sheet answers, and the line's end.
 fn show(rt: &impl Print, sheet: &[u8]) -> io::Result<()> {
-    let reading = sheet::read(sheet);
-    match reading {
-        sheet::Reading::Accepted(counts) => show_counts(rt, counts)?,
-        sheet::Reading::Refused(refusal) => show_refused(rt, sheet::number(refusal))?,
+    match sheet::read(sheet) {
+        Ok(counts) => show_counts(rt, counts)?,
+        Err(refusal) => show_refused(rt, u8::from(refusal))?,
     }
     rt.write_all(b"\n")
 }
 
 // Prints that a sheet is accepted, and its four counts.
 fn show_counts(rt: &impl Print, counts: parts::Counts) -> io::Result<()> {
-    let letters = counts.letters;
-    let fields = counts.fields;
-    let equations = counts.equations;
-    let constraints = counts.constraints;
-    rt.write_all(b": accepted")?;
-    show_number(rt, letters)?;
-    show_number(rt, fields)?;
-    show_number(rt, equations)?;
-    show_number(rt, constraints)
-}
-
-// Prints a space and a number.
-fn show_number(rt: &impl Print, number: u8) -> io::Result<()> {
-    print!(rt; " {number}")
+    let parts::Counts {
+        letters,
+        fields,
+        equations,
+        constraints,
+    } = counts;
+    print!(rt; ": accepted {letters} {fields} {equations} {constraints}")
 }

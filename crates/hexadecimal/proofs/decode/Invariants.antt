@@ -1,9 +1,8 @@
--- `hexadecimal::decode` meets its contract. The loop's invariant: what was written stands within `out`, whose length no store changes. Assumes nothing.
-use Rattle.std.proofs.Common.{◌≡◌, ◌≤◌, ◌-◌, length}
+-- `hexadecimal::decode` meets its contract. The loop's invariant: what was written stands within `out`, whose length no store changes, and a first digit is one.
+-- Assumes nothing.
+use Rattle.std.proofs.Common.{◌≡◌, ◌<◌, ◌≤◌, length}
+use Rattle.std.specs.Prelude.{IfSome}
 use Rattle.hexadecimal.proofs.decode.Given as goal
 
-abbrev pub invariant-loop-i : goal.invariant-loop-i
-invariant-loop-i l = (l.n ≤ length l.out) × (length l.out ≡ length l.initial.out)
-
-abbrev pub decreases-loop-i : goal.decreases-loop-i
-decreases-loop-i l = length l.text - l.i
+abbrev pub invariant-loop-x : goal.invariant-loop-x
+invariant-loop-x l = (l.n ≤ length l.out) × (length l.out ≡ length l.initial.out) × IfSome l.high (λ n. n < 16)

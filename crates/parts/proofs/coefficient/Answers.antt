@@ -6,7 +6,7 @@ use lib.ListN.{length, get_or}
 use mir.Syntax.{w8}
 use Rattle.model.specs.Sheet.{sheet_of, constraint}
 use Rattle.model.proofs.Places.{ConstraintAt, constraint_in, constraint-at}
-use Rattle.scan.proofs.Machine.{stored}
+use Rattle.scan.proofs.Words.{signed-read}
 use Rattle.parts.proofs.Known.{lent_bytes}
 use Rattle.parts.proofs.coefficient.Goals as goal
 use Rattle.parts.proofs.coefficient.Lts as lts
@@ -29,6 +29,6 @@ bounds-sheet-at c = omega (arith, there c.before.before, c.requires.2)
 pub returns : goal.returns
 returns c =
     let k = c.constraint_at-at.result + c.args.f in
-    rw c.signed_byte.ensures
-    (stored w8 128 (get_or c.args.sheet.now k 0) refl (omega (arith, c.shared_slice_known-2-1.given k))
+    rw c.cast_signed.ensures
+    (signed-read w8 128 (get_or c.args.sheet.now k 0) refl refl (omega (arith, c.shared_slice_known-2-1.given k))
     ∙ (there c.before.before.before).coefficient_at c.args.f c.requires.2)

@@ -26,18 +26,18 @@ bounds-sheet-7 c =
 -- the constraint stands there
 there : (c : lts.After-entry_at tie.the-claims reads.Pre reads.Post) →
     let at-start = c.before.before.before.before.before.before in
-    Holds at-start.args.sheet.now (c.entry_at-first.result + at-start.args.r * (c.wide-fields.result + 2)) (encode_constraint (constraint (sheet_of at-start.args.sheet.now) at-start.args.r))
+    Holds at-start.args.sheet.now (c.entry_at-first.result + at-start.args.r * (c.from-fields.result + 2)) (encode_constraint (constraint (sheet_of at-start.args.sheet.now) at-start.args.r))
 there c =
     let at-start = c.before.before.before.before.before.before in
-    let at_wide = c.wide-fields in
-    let at-wide2 = c.wide-equations in
+    let at_from = c.from-fields in
+    let at-from2 = c.from-equations in
     let b = at-start.args.sheet.now in
     let y = lent_bytes b c.shared_slice_known-1.given in
     let ok = at-start.requires.0 in
     let s = sheet_of b in
-    let last : length s.equations ≤ at-wide2.result = omega (arith, equation-count-at b y ok, at-wide2.ensures.0) in
-    let first = past-equations b c.entry_at-first.result at-wide2.result s.equations (each s.constraints encode_constraint) last c.entry_at-first.ensures in
-    let fields : length s.limits ≡ at_wide.result = omega (arith, field-count-at b y ok, at_wide.ensures.0) in
+    let last : length s.equations ≤ at-from2.result = omega (arith, equation-count-at b y ok, at-from2.ensures) in
+    let first = past-equations b c.entry_at-first.result at-from2.result s.equations (each s.constraints encode_constraint) last c.entry_at-first.ensures in
+    let fields : length s.limits ≡ at_from.result = omega (arith, field-count-at b y ok, at_from.ensures) in
     subst (λ m. Holds b (c.entry_at-first.result + at-start.args.r * (m + 2)) (encode_constraint (constraint s at-start.args.r))) fields
     (this_constraint b (length s.limits) c.entry_at-first.result at-start.args.r s.constraints (accepted_in_range b y ok).constraints_in at-start.requires.1 first)
 
@@ -48,21 +48,21 @@ entry_at-first-requires c =
     let y = lent_bytes b at-shared-slice-known.given in
     let ok = c.requires.0 in
     let q = equation-count-at b y ok in
-    (c.requires.0, omega (arith, c.wide-equations.ensures.0))
+    (c.requires.0, omega (arith, c.from-equations.ensures))
 
 pub overflow_mul-result : goal.overflow_mul-result
 overflow_mul-result c =
     let at-shared-slice-known = c.shared_slice_known-1 in
-    let at_wide = c.wide-fields in
+    let at_from = c.from-fields in
     let b = c.args.sheet.now in
     let y = lent_bytes b at-shared-slice-known.given in
     let ok = c.requires.0 in
     let v = field-count-at b y ok in
-    let w = at_wide.ensures.0 in
+    let w = at_from.ensures in
     let n = accepted_counts b ok in
     let r : c.args.r ≤ 4 = omega (arith, c.requires.1, n.of_constraints) in
-    let f : at_wide.result + 2 ≤ 8 = omega (arith, n.of_fields) in
-    let p : c.args.r * (at_wide.result + 2) ≤ 4 * 8 = mul-le-mul r f in
+    let f : at_from.result + 2 ≤ 8 = omega (arith, n.of_fields) in
+    let p : c.args.r * (at_from.result + 2) ≤ 4 * 8 = mul-le-mul r f in
     omega arith
 
 pub overflow_add-result-2 : goal.overflow_add-result-2

@@ -17,14 +17,14 @@ bounds-sheet-5 c =
     omega (arith, header-there c.args.sheet.now c.shared_slice_known-1.given c.requires.0)
 
 -- the limits stand there
-there : (c : lts.After-wide tie.the-claims reads.Pre reads.Post) →
+there : (c : lts.After-from tie.the-claims reads.Pre reads.Post) →
     let at-start = c.before.before.before in
-    Holds at-start.args.sheet.now (9 + c.wide-letters.result) (sheet_of at-start.args.sheet.now).limits
+    Holds at-start.args.sheet.now (9 + c.from-letters.result) (sheet_of at-start.args.sheet.now).limits
 there c =
     let at-start = c.before.before.before in
     let b = at-start.args.sheet.now in
     let y = lent_bytes b c.shared_slice_known-1.given in
-    let from : 9 + length (sheet_of b).letters ≡ 9 + c.wide-letters.result = omega (arith, letter-count-at b y at-start.requires.0, c.wide-letters.ensures.0) in
+    let from : 9 + length (sheet_of b).letters ≡ 9 + c.from-letters.result = omega (arith, letter-count-at b y at-start.requires.0, c.from-letters.ensures) in
     holds-from from (holds_limits b y at-start.requires.0)
 
 pub overflow_add-result-2 : goal.overflow_add-result-2

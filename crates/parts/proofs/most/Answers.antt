@@ -6,7 +6,7 @@ use lib.ListN.{length, get_or}
 use mir.Syntax.{w16}
 use Rattle.model.specs.Sheet.{sheet_of, constraint, sixteen, signed16}
 use Rattle.model.proofs.Places.{field-count-at, ConstraintAt, constraint_in, constraint-at}
-use Rattle.scan.proofs.Machine.{stored}
+use Rattle.scan.proofs.Words.{signed-read}
 use Rattle.parts.proofs.Known.{lent_bytes, header-there}
 use Rattle.parts.proofs.most.Goals as goal
 use Rattle.parts.proofs.most.Lts as lts
@@ -18,10 +18,10 @@ bounds-sheet-6 c =
     omega (arith, header-there c.args.sheet.now c.shared_slice_known-1.given c.requires.0)
 
 -- the byte that was read is the field count
-fields : (c : lts.After-wide tie.the-claims reads.Pre reads.Post) → c.wide-fields.result ≡ length (sheet_of c.args.sheet.now).limits
+fields : (c : lts.After-from tie.the-claims reads.Pre reads.Post) → c.from-fields.result ≡ length (sheet_of c.args.sheet.now).limits
 fields c =
     let b = c.args.sheet.now in
-    c.wide-fields.ensures.0 ∙ field-count-at b (lent_bytes b c.shared_slice_known-1.given) c.requires.0
+    c.from-fields.ensures ∙ field-count-at b (lent_bytes b c.shared_slice_known-1.given) c.requires.0
 
 -- the constraint at the offset
 there : (c : lts.After-constraint_at tie.the-claims reads.Pre reads.Post) →
@@ -49,9 +49,9 @@ pub returns : goal.returns
 returns c =
     let b = c.args.sheet.now in
     let first = c.constraint_at.result in
-    let k = first + c.wide-fields.result in
+    let k = first + c.from-fields.result in
     let bytes = c.shared_slice_known-4-1.given in
-    rw c.signed_pair.ensures
-    (stored w16 32768 (sixteen (get_or b k 0) (get_or b (k + 1) 0)) refl (omega (arith, bytes k, bytes (k + 1)))
+    rw c.from_be_bytes.ensures
+    (signed-read w16 32768 (sixteen (get_or b k 0) (get_or b (k + 1) 0)) refl refl (omega (arith, bytes k, bytes (k + 1)))
     ∙ ap (λ m. signed16 (get_or b (first + m) 0) (get_or b (first + m + 1) 0)) (fields c.before.before.before.before.before)
     ∙ (there c.before.before.before.before).most_at)

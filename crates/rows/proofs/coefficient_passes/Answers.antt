@@ -1,18 +1,9 @@
--- `rows::coefficient_passes` meets its contract: a number from -4 to 4 is one whose magnitude is at most 4. Assumes nothing.
-use native.Mathlib.Omega.{arith}
-use Rattle.model.specs.Sheet.{signed8}
-use Rattle.rows.proofs.Tests.{below_range, from_range}
-use Rattle.scan.proofs.Machine.{stored}
-use mir.Syntax.{w8}
+-- `rows::coefficient_passes` meets its contract. Assumes nothing.
 use mathlib.Core.Path.{refl}
+use native.Mathlib.Omega.{arith}
+use mir.Syntax.{w8}
+use Rattle.scan.proofs.Words.{signed-read}
 use Rattle.rows.proofs.coefficient_passes.Goals as goal
 
-pub returns-then-c-lt-LEAST_COEFFICIENT : goal.returns-then-c-lt-LEAST_COEFFICIENT
-returns-then-c-lt-LEAST_COEFFICIENT c =
-    let x = c.args.x in
-    below_range (signed8 x) (rw (c.signed_byte-c.ensures, stored w8 128 x refl (omega arith)) at c.if-c-lt-LEAST_COEFFICIENT.true)
-
 pub returns : goal.returns
-returns c =
-    let x = c.args.x in
-    rw (c.signed_byte-c.ensures, stored w8 128 x refl (omega arith)) (from_range (signed8 x) (rw (c.signed_byte-c.ensures, stored w8 128 x refl (omega arith)) at c.if-c-lt-LEAST_COEFFICIENT.false))
+returns c = rw (c.unsigned_abs.ensures.value, c.cast_signed.ensures, signed-read w8 128 c.args.x refl refl (omega arith))

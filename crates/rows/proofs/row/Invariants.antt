@@ -6,7 +6,4 @@ use Rattle.rows.specs.Progress.{role_of}
 use Rattle.rows.proofs.row.Given as goal
 
 abbrev pub invariant-loop-i : goal.invariant-loop-i
-invariant-loop-i l = (l.i ≤ l.n) × (l.at + l.i ≤ length l.sheet) × (rest (row (role_of l.role) 0 l.n (drop l.at l.sheet)) ≡ rest (row (role_of l.role) l.before (l.n - l.i) (drop (l.at + l.i) l.sheet)))
-
-abbrev pub decreases-loop-i : goal.decreases-loop-i
-decreases-loop-i l = l.n - l.i
+invariant-loop-i l = (l.at + l.i ≤ length l.sheet) × (rest (row (role_of l.role) 0 l.n (drop l.at l.sheet)) ≡ rest (row (role_of l.role) l.before (l.n - l.i) (drop (l.at + l.i) l.sheet)))

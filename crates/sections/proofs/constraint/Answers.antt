@@ -1,36 +1,22 @@
 -- `sections::constraint` meets its contract: the coefficients, then the limit. Assumes nothing.
-use mathlib.Core.Path.{◌≡◌, sym, ◌∙◌}
-use native.Mathlib.Omega.{arith}
+use mathlib.Core.Path.{sym, ◌∙◌}
 use lib.ListN.{drop}
 use Rattle.model.specs.Sheet as model
-use Rattle.model.specs.Sheet.{rest}
-use Rattle.rows.specs.Progress.{left}
+use Rattle.std.proofs.lemmas.Result.{err_from_is_err_and}
 use Rattle.model.proofs.Rests.{rest_stops, rest_goes, constraint-rest}
-use Rattle.sections.proofs.Walks.{at_told, fault-told, landed-told, landed-within}
 use Rattle.sections.proofs.constraint.Goals as goal
 
-pub row-requires-in-At : goal.row-requires-in-At
-row-requires-in-At c =
-    let at_row = c.row in
-    let k = landed-told c.args.sheet.now _ at_row.ensures.landed c.in-At.is in
-    omega arith
+pub returns-in_err-a-clause-result_value : goal.returns-in_err-a-clause-result_value
+returns-in_err-a-clause-result_value c =
+    let p = err_from_is_err_and c.from_residual.result c.from_residual.ensures.1 in
+    let v = c.args.fields in
+    let xs = drop c.args.at c.args.sheet.now in
+    let e = rw c.from.ensures at (sym c.in_err-a.ensures.result_value) in
+    rw (p.1, p.2) (sym (constraint-rest v xs ∙ rest_stops (model.row model.coefficient_byte 0 v xs) (λ cs ys. model.row model.most_byte 0 2 ys) e))
 
-pub returns-in-Stopped : goal.returns-in-Stopped
-returns-in-Stopped c =
-    let at_row = c.row in
-    let at_wide = c.wide in
-    let a = c.args in
-    let b = a.sheet.now in
-    let xs = drop a.at b in
-    let e : left b at_row.result ≡ rest (model.row model.coefficient_byte 0 a.fields xs) = rw at_wide.ensures.0 at at_row.ensures.result_value in
-    record { result_value = sym (constraint-rest a.fields xs ∙ rest_stops (model.row model.coefficient_byte 0 a.fields xs) (λ cs ys. model.row model.most_byte 0 2 ys) (fault-told b (model.row model.coefficient_byte 0 a.fields xs) e c.in-Stopped.is)); within = tt }
-
-pub returns-in-At : goal.returns-in-At
-returns-in-At c =
-    let at_row = c.row in
-    let at_wide = c.wide in
-    let a = c.args in
-    let b = a.sheet.now in
-    let xs = drop a.at b in
-    let e : left b at_row.result ≡ rest (model.row model.coefficient_byte 0 a.fields xs) = rw at_wide.ensures.0 at at_row.ensures.result_value in
-    record { result_value = c.row-in-At.ensures.result_value ∙ sym (constraint-rest a.fields xs ∙ rest_goes (model.row model.coefficient_byte 0 a.fields xs) (model.row model.most_byte 0 2) (at_told b (model.row model.coefficient_byte 0 a.fields xs) e c.in-At.is)); within = landed-within b _ c.row-in-At.result c.row-in-At.ensures.landed }
+pub returns-clause-result_value : goal.returns-clause-result_value
+returns-clause-result_value c =
+    let v = c.args.fields in
+    let xs = drop c.args.at c.args.sheet.now in
+    let e = rw c.from.ensures at (sym c.in_ok-a.ensures.result_value) in
+    c.row-2.ensures.result_value ∙ sym (constraint-rest v xs ∙ rest_goes (model.row model.coefficient_byte 0 v xs) (model.row model.most_byte 0 2) e)

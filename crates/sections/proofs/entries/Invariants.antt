@@ -5,8 +5,5 @@ use Rattle.model.specs.Sheet.{times, rest}
 use Rattle.sections.specs.Sections.{entry_of}
 use Rattle.sections.proofs.entries.Given as goal
 
-abbrev pub invariant-loop-i : goal.invariant-loop-i
-invariant-loop-i l = (l.i ≤ l.n) × (l.at ≤ length l.sheet) × (rest (times l.n (entry_of l.sheet l.letters l.fields l.section) (drop l.start l.sheet)) ≡ rest (times (l.n - l.i) (entry_of l.sheet l.letters l.fields l.section) (drop l.at l.sheet)))
-
-abbrev pub decreases-loop-i : goal.decreases-loop-i
-decreases-loop-i l = l.n - l.i
+abbrev pub invariant-loop : goal.invariant-loop
+invariant-loop l = (l.at ≤ length l.sheet) × (rest (times l.n (entry_of l.sheet l.letters l.fields l.section) (drop l.start l.sheet)) ≡ rest (times (l.n - l.counter) (entry_of l.sheet l.letters l.fields l.section) (drop l.at l.sheet)))

@@ -1,97 +1,52 @@
 -- `sections::sides` meets its contract: both rows of symbols, then both widths. Assumes nothing.
 use mathlib.Core.Path.{◌≡◌, sym, ◌∙◌}
-use native.Mathlib.Omega.{arith}
-use mathlib.Core.List.{map}
+use mathlib.Core.List.{List, map}
+use Prim.Native.Nat.{ℕ, ◌+◌, ◌≤◌}
 use lib.Dec.{leb}
-use lib.ListN.{take, drop}
-use borrow.Author.Tests.{not-true, not-false}
+use lib.ListN.{length, take, drop}
 use Rattle.model.specs.Sheet as model
 use Rattle.model.specs.Sheet.{rest}
+use Rattle.std.proofs.lemmas.Result.{err_from_is_err_and}
 use Rattle.sections.specs.Sections.{limits_in}
 use Rattle.model.proofs.Rests.{left_stops, right_stops, both_read}
-use Rattle.sections.proofs.Walks.{at_told, fault-told, landed-told, limits-length}
+use Rattle.sections.proofs.Walks.{limits-length}
 use Rattle.sections.proofs.sides.Goals as goal
-use Rattle.sections.proofs.sides.Lts as lts
-use Rattle.sections.proofs.sides.Reads as reads
-use Rattle.sections.proofs.sides.Tie as tie
+use Rattle.sections.proofs.sides.Goals.{then-not-narrow-via-then-not-narrow, then-not-narrow-via-else-not-narrow+then-not-narrow-2}
 
--- the left symbols are read
-left-read : (c : lts.Past-After-known_told2 tie.the-claims reads.Pre reads.Post tie.handed_clauses) →
+pub returns-in_err-a-clause-result_value : goal.returns-in_err-a-clause-result_value
+returns-in_err-a-clause-result_value c =
+    let p = err_from_is_err_and c.from_residual.result c.from_residual.ensures.1 in
     let a = c.args in
     let b = a.sheet.now in
-    rest (model.row (model.template_byte a.letters a.fields) 0 a.m (drop a.at b)) ≡ model.got tt (drop c.in-At.a b)
-left-read c =
+    rw (p.1, p.2) (sym (left_stops a.letters a.fields (limits_in b a.letters a.fields) (limits-length b a.letters a.fields c.requires.0) a.m a.n (drop a.at b) (sym c.in_err-a.ensures.result_value)))
+
+pub returns-in_err-e-clause-result_value : goal.returns-in_err-e-clause-result_value
+returns-in_err-e-clause-result_value c =
+    let p = err_from_is_err_and c.from_residual-in_err-e.result c.from_residual-in_err-e.ensures.1 in
     let a = c.args in
     let b = a.sheet.now in
-    at_told b (model.row (model.template_byte a.letters a.fields) 0 a.m (drop a.at b)) c.row.ensures.result_value c.in-At.is
+    rw (p.1, p.2) (sym (right_stops a.letters a.fields (limits_in b a.letters a.fields) (limits-length b a.letters a.fields c.requires.0) a.m a.n (drop a.at b) (drop c.in_ok-a.a b)
+    (sym c.in_ok-a.ensures.result_value) (sym c.in_err-e.ensures.result_value)))
 
 -- both sides' symbols are read
-both : (c : lts.Past-After-known_told4 tie.the-claims reads.Pre reads.Post tie.handed_clauses) →
+both : (b : List ℕ) (l v at m n a e : ℕ) → 9 + l + v ≤ length b →
+    model.got tt (drop a b) ≡ rest (model.row (model.template_byte l v) 0 m (drop at b)) → model.got tt (drop e b) ≡ rest (model.row (model.template_byte l v) 0 n (drop a b)) →
+    rest (model.sides l (limits_in b l v) m n (drop at b))
+    ≡ model.must (leb (model.width (limits_in b l v) (map model.symbol_of (take m (drop at b)))) 24) 14
+    (model.must (leb (model.width (limits_in b l v) (map model.symbol_of (take n (drop a b)))) 24) 14 (model.got tt (drop e b)))
+both b l v at m n a e long left right = both_read l v (limits_in b l v) (limits-length b l v long) m n (drop at b) (drop a b) (sym left) (drop e b) (sym right)
+
+pub returns-then-not-narrow-clause-result_value : goal.returns-then-not-narrow-clause-result_value
+returns-then-not-narrow-clause-result_value c =
     let a = c.args in
-    let b = a.sheet.now in
-    let limits = limits_in b a.letters a.fields in
-    let xs = drop a.at b in
-    let ys = drop c.in-At.a b in
-    let zs = drop c.in-At-row.e b in
-    rest (model.sides a.letters limits a.m a.n xs)
-    ≡ model.must (leb (model.width limits (map model.symbol_of (take a.m xs))) 24) 14
-    (model.must (leb (model.width limits (map model.symbol_of (take a.n ys))) 24) 14 (model.got tt zs))
-both c =
+    let read = both a.sheet.now a.letters a.fields a.at a.m a.n c.in_ok-a.a c.in_ok-e.e c.requires.0 c.in_ok-a.ensures.result_value c.in_ok-e.ensures.result_value in
+    elim c.then-not-narrow.branch [
+      | then-not-narrow-via-then-not-narrow w ↦ sym (read ∙ rw (sym w.if-not-narrow.ensures))
+      | then-not-narrow-via-else-not-narrow+then-not-narrow-2 w ↦ sym (read ∙ rw (sym w.if-not-narrow.ensures, sym w.if-not-narrow-2.ensures))
+    ]
+
+pub returns-clause-result_value : goal.returns-clause-result_value
+returns-clause-result_value c =
     let a = c.args in
-    let b = a.sheet.now in
-    let symbols = model.template_byte a.letters a.fields in
-    let ys = drop c.in-At.a b in
-    let zs = drop c.in-At-row.e b in
-    both_read a.letters a.fields (limits_in b a.letters a.fields) (limits-length b a.letters a.fields c.requires.0) a.m a.n (drop a.at b) ys
-    (left-read c.before.before) zs (at_told b (model.row symbols 0 a.n ys) c.row-in-At.ensures.result_value c.in-At-row.is)
-
-pub row-requires-in-At : goal.row-requires-in-At
-row-requires-in-At c =
-    let at_row = c.row in
-    let k = landed-told c.args.sheet.now _ at_row.ensures.landed c.in-At.is in
-    omega arith
-
-pub narrow-requires : goal.narrow-requires
-narrow-requires c =
-    let at_row = c.row in
-    let k = landed-told c.args.sheet.now _ at_row.ensures.landed c.in-At.is in
-    omega (arith, c.requires)
-
-pub returns-then-not-narrow : goal.returns-then-not-narrow
-returns-then-not-narrow c = record { result_value = sym (both c.before.before.before ∙ rw (sym c.narrow.ensures ∙ not-true _ c.if-not-narrow.true-raw)); within = tt }
-
-pub narrow-requires-in-At-row : goal.narrow-requires-in-At-row
-narrow-requires-in-At-row c =
-    let at-row2 = c.row-in-At in
-    let k = landed-told c.args.sheet.now _ at-row2.ensures.landed c.in-At-row.is in
-    omega (arith, c.requires)
-
-pub returns-then-not-narrow-2 : goal.returns-then-not-narrow-2
-returns-then-not-narrow-2 c = record { result_value = sym (both c.before.before.before.before.before ∙ rw (sym c.narrow.ensures ∙ not-false _ c.if-not-narrow.false-raw, sym c.narrow-in-At-row.ensures ∙ not-true _ c.if-not-narrow-2.true-raw)); within = tt }
-
-pub returns-in-Stopped : goal.returns-in-Stopped
-returns-in-Stopped c =
-    let a = c.args in
-    let b = a.sheet.now in
-    let xs = drop a.at b in record {
-      result_value = sym (left_stops a.letters a.fields (limits_in b a.letters a.fields) (limits-length b a.letters a.fields c.requires.0) a.m a.n xs
-          (fault-told b (model.row (model.template_byte a.letters a.fields) 0 a.m xs) c.row.ensures.result_value c.in-Stopped.is));
-      within = tt;
-    }
-
-pub returns-in-Stopped-row : goal.returns-in-Stopped-row
-returns-in-Stopped-row c =
-    let a = c.args in
-    let b = a.sheet.now in
-    let ys = drop c.in-At.a b in record {
-      result_value = sym (right_stops a.letters a.fields (limits_in b a.letters a.fields) (limits-length b a.letters a.fields c.requires.0) a.m a.n (drop a.at b) ys
-          (left-read c.before.before.before) (fault-told b (model.row (model.template_byte a.letters a.fields) 0 a.n ys) c.row-in-At.ensures.result_value c.in-Stopped-row.is));
-      within = tt;
-    }
-
-pub returns-else-not-narrow-2 : goal.returns-else-not-narrow-2
-returns-else-not-narrow-2 c =
-    let at-row2 = c.row-in-At in
-    let after-e = c.before.before.before.before.before in
-    let end = landed-told c.args.sheet.now _ at-row2.ensures.landed after-e.in-At-row.is in
-    record { result_value = sym (both after-e ∙ rw (sym c.narrow.ensures ∙ not-false _ c.if-not-narrow.false-raw, sym c.narrow-in-At-row.ensures ∙ not-false _ c.if-not-narrow-2.false-raw)); within = omega arith }
+    let read = both a.sheet.now a.letters a.fields a.at a.m a.n c.in_ok-a.a c.in_ok-e.e c.requires.0 c.in_ok-a.ensures.result_value c.in_ok-e.ensures.result_value in
+    sym (read ∙ rw (sym c.if-not-narrow.ensures, sym c.if-not-narrow-2.ensures))

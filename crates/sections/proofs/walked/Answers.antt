@@ -1,66 +1,28 @@
 -- `sections::walked` meets its contract: the tables, the equations, the constraints. Assumes nothing.
-use mathlib.Core.Path.{◌≡◌, sym, ◌∙◌}
-use native.Mathlib.Omega.{arith}
+use mathlib.Core.Path.{sym, ◌∙◌}
 use lib.ListN.{drop}
-use Rattle.model.specs.Sheet.{times, rest}
-use Rattle.rows.specs.Progress.{left}
-use Rattle.sections.specs.Sections.{counts_of, entry_of, tables_of}
-use Rattle.sections.specs.declared.Section.TheVariants.{Equations, Constraints}
+use Rattle.std.proofs.lemmas.Result.{err_from_is_err_and}
+use Rattle.sections.specs.Sections.{counts_of}
 use Rattle.model.proofs.Rests.{walk_stops}
-use Rattle.sections.proofs.Walks.{at_told, fault-told, landed-told, within-told, equations_stop, constraints-left}
+use Rattle.sections.proofs.Walks.{equations_stop, constraints-left}
 use Rattle.sections.proofs.walked.Goals as goal
 
-pub entries-requires : goal.entries-requires
-entries-requires c =
-    let at-tables = c.tables in
-    let k = landed-told c.args.sheet.now _ at-tables.ensures.landed c.in-At.is in
-    omega arith
-
-pub entries-requires-in-At-entries : goal.entries-requires-in-At-entries
-entries-requires-in-At-entries c =
-    let at-tables = c.tables in
-    let at-entries = c.entries in
-    let k = landed-told c.args.sheet.now _ at-tables.ensures.landed c.in-At.is in
-    let m = within-told c.args.sheet.now at-entries.ensures.within c.in-At-entries.is in
-    omega arith
-
-pub returns-in-Stopped : goal.returns-in-Stopped
-returns-in-Stopped c =
-    let at-tables = c.tables in
+pub returns-in_err-a-clause-result_value : goal.returns-in_err-a-clause-result_value
+returns-in_err-a-clause-result_value c =
+    let p = err_from_is_err_and c.from_residual.result c.from_residual.ensures.1 in
     let n = c.args in
-    let b = n.sheet.now in
-    let counts = counts_of n.letters n.fields n.equations n.constraints in
-    let t = tables_of n.letters n.fields (drop 9 b) in
-    record { result_value = sym (walk_stops counts (drop 9 b) (fault-told b t at-tables.ensures.result_value c.in-Stopped.is)); within = tt }
+    rw (p.1, p.2) (sym (walk_stops (counts_of n.letters n.fields n.equations n.constraints) (drop 9 n.sheet.now) (sym c.in_err-a.ensures.result_value)))
 
-pub returns-in-Stopped-entries : goal.returns-in-Stopped-entries
-returns-in-Stopped-entries c =
-    let at-tables = c.tables in
-    let at-entries = c.entries in
-    let at_wide = c.wide in
+pub returns-in_err-e-clause-result_value : goal.returns-in_err-e-clause-result_value
+returns-in_err-e-clause-result_value c =
+    let p = err_from_is_err_and c.from_residual-in_err-e.result c.from_residual-in_err-e.ensures.1 in
     let n = c.args in
-    let b = n.sheet.now in
-    let counts = counts_of n.letters n.fields n.equations n.constraints in
-    let t = tables_of n.letters n.fields (drop 9 b) in
-    let k = c.in-At.a in
-    let ready = at_told b t at-tables.ensures.result_value c.in-At.is in
-    let es = times n.equations (entry_of b n.letters n.fields Equations) (drop k b) in
-    let e : left b at-entries.result ≡ rest es = rw at_wide.ensures.0 at at-entries.ensures.result_value in
-    record { result_value = sym (equations_stop b counts k ready (fault-told b es e c.in-Stopped-entries.is)); within = tt }
+    let e = rw c.from-n.ensures at (sym c.in_err-e.ensures.result_value) in
+    rw (p.1, p.2) (sym (equations_stop n.sheet.now (counts_of n.letters n.fields n.equations n.constraints) c.in_ok-a.a (sym c.in_ok-a.ensures.result_value) e))
 
-pub returns-in-At-entries : goal.returns-in-At-entries
-returns-in-At-entries c =
-    let at-tables = c.tables in
-    let at-entries = c.entries in
-    let at_wide = c.wide in
+pub returns-clause-result_value : goal.returns-clause-result_value
+returns-clause-result_value c =
     let n = c.args in
-    let b = n.sheet.now in
-    let counts = counts_of n.letters n.fields n.equations n.constraints in
-    let t = tables_of n.letters n.fields (drop 9 b) in
-    let k = c.in-At.a in
-    let ready = at_told b t at-tables.ensures.result_value c.in-At.is in
-    let es = times n.equations (entry_of b n.letters n.fields Equations) (drop k b) in
-    let e : left b at-entries.result ≡ rest es = rw at_wide.ensures.0 at at-entries.ensures.result_value in
-    let m = c.in-At-entries.e in
-    let e2 : left b c.entries-in-At-entries.result ≡ rest (times n.constraints (entry_of b n.letters n.fields Constraints) (drop m b)) = rw c.wide-in-At-entries.ensures.0 at c.entries-in-At-entries.ensures.result_value in
-    record { result_value = e2 ∙ sym (constraints-left b counts k ready m (at_told b es e c.in-At-entries.is)); within = c.entries-in-At-entries.ensures.within }
+    let e = rw c.from-n.ensures at (sym c.in_ok-e.ensures.result_value) in
+    let e2 = rw c.from-r.ensures at c.entries-2.ensures.result_value in
+    e2 ∙ sym (constraints-left n.sheet.now (counts_of n.letters n.fields n.equations n.constraints) c.in_ok-a.a (sym c.in_ok-a.ensures.result_value) c.in_ok-e.e e)

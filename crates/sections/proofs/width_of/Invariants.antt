@@ -1,12 +1,9 @@
 use mathlib.Core.Path.{◌≡◌}
 use mathlib.Core.List.{map}
-use Prim.Native.Nat.{◌+◌, ◌-◌, ◌*◌, ◌≤◌}
-use lib.ListN.{length, drop}
+use Prim.Native.Nat.{◌+◌, ◌*◌, ◌≤◌}
+use lib.ListN.{drop}
 use Rattle.model.specs.Sheet.{symbol_of, width}
 use Rattle.sections.proofs.width_of.Given as goal
 
-abbrev pub invariant-loop-i : goal.invariant-loop-i
-invariant-loop-i l = (l.i ≤ length l.symbols) × (l.total ≤ l.i * 256) × (l.total + width l.limits (map symbol_of (drop l.i l.symbols)) ≡ width l.limits (map symbol_of l.symbols))
-
-abbrev pub decreases-loop-i : goal.decreases-loop-i
-decreases-loop-i l = length l.symbols - l.i
+abbrev pub invariant-loop-x : goal.invariant-loop-x
+invariant-loop-x l = (l.total ≤ l.x-index * 256) × (l.total + width l.limits (map symbol_of (drop l.x-index l.symbols)) ≡ width l.limits (map symbol_of l.symbols))

@@ -1,33 +1,42 @@
--- `scan::bytes::find` meets its contract. The loop's invariant: the first x from index i on is the first from the start on. Assumes nothing.
-use mathlib.Core.Path.{refl}
-use Prim.Native.Nat.{◌-◌}
+-- `scan::bytes::find` meets its contract: the first x from the offset on, or the length. Assumes nothing.
+use mathlib.Core.Path.{◌≡◌}
 use native.Mathlib.Omega.{arith}
-use Rattle.model.proofs.Spans.{span_here, span-later, span_nowhere}
+use lib.ListN.{length, take, drop, length-drop}
+use lib.Seq.{take_all}
+use mathlib.Core.List.{List}
+use mathlib.Core.Path.{ap}
+use Prim.Native.Nat.{ℕ, ◌+◌, ◌-◌}
+use Rattle.std.proofs.Common.{rules}
+use Rattle.std.specs.Option.{unwrap_or}
+use Rattle.std.proofs.lemmas.Iterator.{YieldsList-from_slice, IsFirst-from_position}
+use borrow.Author.Tests.{tests}
+use Rattle.model.specs.Lists.{span}
+use Rattle.model.proofs.Spans.{span-short}
+use Rattle.scan.proofs.Words.{span-first}
 use Rattle.scan.proofs.bytes.find.Goals as goal
+use Rattle.scan.proofs.bytes.find.Lts as lts
+use Rattle.scan.proofs.bytes.find.Reads as reads
+use Rattle.scan.proofs.bytes.find.Tie as tie
 
-pub loop-i-init : goal.loop-i-init
-loop-i-init c = (omega arith, omega arith, refl)
+module _ (c : lts.After-position tie.the-claims reads.Pre reads.Post tie.handed_clauses) where
+  abbrev rest : List ℕ
+  rest = take (length c.args.bytes.now - c.args.at) (drop c.args.at c.args.bytes.now)
 
-pub returns-then-bytes-i : goal.returns-then-bytes-i
-returns-then-bytes-i c =
-    let at-loop = c.loop-i in
-    let a = c.args in
-    let e = at-loop.invariant.2 in
-    let n = span_here a.x a.bytes.now at-loop.i (omega arith) c.if-bytes-i.true in
-    (omega arith, omega arith, omega arith)
+  whole : rest ≡ drop c.args.at c.args.bytes.now
+  whole = take_all (length c.args.bytes.now - c.args.at) (drop c.args.at c.args.bytes.now) (omega (arith, length-drop c.args.at c.args.bytes.now))
 
-pub loop-i-preserved : goal.loop-i-preserved
-loop-i-preserved c =
-    let at-loop = c.loop-i in
-    let a = c.args in
-    let e = at-loop.invariant.2 in
-    let n = span-later a.x a.bytes.now at-loop.i (omega arith) c.if-bytes-i.false in
-    (omega arith, omega arith, omega arith)
+  first : c.args.at + span c.args.x (drop c.args.at c.args.bytes.now) ≡ c.args.at + unwrap_or c.position.result (length c.args.bytes.now - c.args.at)
+  first =
+      let n = span-first c.args.x rest c.position.result (IsFirst-from_position _ _ _ (λ y. y ≡ c.args.x) (λ y. y ≡ c.args.x → ⊥) c.position.ensures.ran (YieldsList-from_slice _ c.iter.ensures.rest) (λ x q k. search (rules, tests)) (λ x q k. search (rules, tests))) in
+      ap (λ k. c.args.at + k) (rw (whole, length-drop) at n)
 
-pub returns : goal.returns
-returns c =
-    let at-loop = c.loop-i in
-    let a = c.args in
-    let e = at-loop.invariant.2 in
-    let n = span_nowhere a.x a.bytes.now at-loop.i (omega arith) in
+pub returns-in-Some : goal.returns-in-Some
+returns-in-Some c =
+    let n = rw c.in-Some.is at (first c.before.before) in
+    let short = span-short c.args.x (drop c.args.at c.args.bytes.now) in
+    (omega arith, omega arith, omega (arith, length-drop c.args.at c.args.bytes.now))
+
+pub returns-in-None : goal.returns-in-None
+returns-in-None c =
+    let n = rw c.in-None.is at (first c.before.before) in
     (omega arith, omega arith, omega arith)
