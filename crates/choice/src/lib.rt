@@ -190,19 +190,6 @@ fn open_field(lo: Lengths, hi: Lengths) -> Option<usize>
     None
 }
 
-// The equation that failed, where the board is not ok; else that which failed before.
-pub fn failed(b: Board, last: u8) -> u8 {
-    if b.ok {
-        return last;
-    }
-    let t = b.ahead;
-    if !t.ok {
-        return t.last;
-    }
-    let u = b.behind;
-    u.last
-}
-
 // The field that parts the box from lo to hi, whose walks stand where the board tells; None where all lengths are settled. x has the cells of the equations, y
 // those of the equations reversed, w their widths, and `last` is the equation that failed last.
 pub fn choose(
