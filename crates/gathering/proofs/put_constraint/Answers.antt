@@ -1,7 +1,6 @@
 -- `gathering::put_constraint` meets its contract. Assumes nothing.
 use mathlib.Core.Path.{ap, ◌∙◌}
 use Prim.Native.Nat.{◌*◌}
-use native.Mathlib.Omega.{arith}
 use borrow.Author.Tests.{not-false}
 use Rattle.model.specs.Lists.{placed}
 use Rattle.model.specs.Sheet.{sheet_of, constraint}
@@ -13,21 +12,6 @@ pub returns-then-not-mark : goal.returns-then-not-mark
 returns-then-not-mark c =
     let a = c.args in
     no_rows a.i a.rows.now a.mark _ c.if-not-mark.true-raw
-
-pub constraint_row-requires : goal.constraint_row-requires
-constraint_row-requires c =
-    (c.requires.0, c.requires.1)
-
-pub put_row-requires : goal.put_row-requires
-put_row-requires c =
-    c.requires.2
-
-pub overflow_add-result : goal.overflow_add-result
-overflow_add-result c =
-    omega (arith, c.requires.2, c.well_formed.0)
-
-pub shape_of-rows : goal.shape_of-rows
-shape_of-rows c = c.put_row.auto.rows
 
 pub returns : goal.returns
 returns c =
