@@ -20,11 +20,9 @@ pub fn not_both_count(l: usize) -> usize
     requires { l ≤ 8 }
     ensures { (result ≡ not_both_count l) × (result ≤ 72) }
 {
-    let mut sum: usize = 0;
-    let mut a: usize = 0;
-    while a <= l {
-        sum = sum + (l - a);
-        a += 1;
+    let mut sum = 0;
+    for a in 0..l + 1 {
+        sum += l - a;
     }
     sum
 }
@@ -35,10 +33,7 @@ pub fn field_count(sheet: &[u8], f: usize) -> usize
     ensures { (result ≡ field_count (sheet_of sheet.now) f) × (result ≤ 592) }
 {
     let limit = shape::limit(sheet, f);
-    if limit == 0 {
-        return 0;
-    }
-    limit * (2 + not_both_count(shape::letters(sheet))) - 1
+    (limit * (2 + not_both_count(shape::letters(sheet)))).saturating_sub(1)
 }
 
 // The census of the right side of equation p, by which its rows are counted.
@@ -60,11 +55,9 @@ pub fn equation_count(sheet: &[u8], p: usize) -> usize
     let m = shape::width(sheet, p, 0);
     let left = shape::side(sheet, p, 0);
     let right = survey(sheet, p);
-    let mut sum: usize = 1;
-    let mut i: usize = 0;
-    while i <= m {
-        sum = sum + kinds::row_count(letters, left[i], right);
-        i += 1;
+    let mut sum = 1;
+    for i in 0..m + 1 {
+        sum += kinds::row_count(letters, left[i], right);
     }
     sum
 }
@@ -82,12 +75,9 @@ pub fn steps_count(sheet: &[u8], r: usize) -> usize
     requires { Admitted sheet.now × (r < length (sheet_of sheet.now).constraints) }
     ensures { (result ≡ total (length (sheet_of sheet.now).limits) (step_count (sheet_of sheet.now) r)) × (result ≤ 10422) }
 {
-    let fields = shape::fields(sheet);
-    let mut sum: usize = 0;
-    let mut k: usize = 0;
-    while k < fields {
-        sum = sum + step_count(sheet, r, k);
-        k += 1;
+    let mut sum = 0;
+    for k in 0..shape::fields(sheet) {
+        sum += step_count(sheet, r, k);
     }
     sum
 }
@@ -118,12 +108,9 @@ fn section_count(sheet: &[u8], section: Section) -> usize
     requires { Admitted sheet.now }
     ensures { (result ≡ total (parts (sheet_of sheet.now) (section_of section)) (part_counts (sheet_of sheet.now) (section_of section))) × (result ≤ 63696) }
 {
-    let parts = shape::parts(sheet, section);
-    let mut sum: usize = 0;
-    let mut i: usize = 0;
-    while i < parts {
-        sum = sum + part_count(sheet, section, i);
-        i += 1;
+    let mut sum = 0;
+    for i in 0..shape::parts(sheet, section) {
+        sum += part_count(sheet, section, i);
     }
     sum
 }

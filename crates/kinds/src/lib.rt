@@ -6,10 +6,9 @@ ghost use Rattle.std.specs.Prelude.{◌≡◌, ℕ, ◌+◌, ◌*◌, ◌<◌, �
 ghost use Rattle.formula.specs.Kind.{used, at_letter, at_field, kind, kind_count};
 ghost use Rattle.formula.specs.Count.{location_count};
 ghost use Rattle.shape.specs.Bytes.{side_of};
-ghost use Rattle.kinds.specs.Name.{kind_of};
+ghost use Rattle.kinds.specs.Name.{kind_of, stands};
 ghost use Rattle.kinds.specs.Census.{as_this, Few, Added, Counted, AllCells, row_of};
 
-use scan::wide;
 use shape::{FIRST_PLACE, ROOM, USED};
 
 // The kinds, in the request's order.
@@ -42,51 +41,41 @@ pub fn kind_count(l: usize, kind: Kind) -> usize
     }
 }
 
-// The kind of a location where one template is used up; `cell` is the other's next cell.
-fn used_before(cell: u8) -> Kind
-    requires { cell ≡ 255 → ⊥ }
-    ensures { (kind_of result ≡ kind used (side_of cell)) × (kind_of result ≡ kind (side_of cell) used) }
-{
-    if cell < FIRST_PLACE {
-        return Kind::UsedUpBeforeLetter;
-    }
-    Kind::UsedUpBeforeField
+// What stands on one side of a location: nothing, a letter, or a place.
+#[derive(Clone, Copy)]
+pub enum Side {
+    Used,
+    Letter(u8),
+    Place,
 }
 
-// The kind of a location where neither is used up.
-fn crossing(u: u8, v: u8) -> Kind
-    requires { (u ≡ 255 → ⊥) × (v ≡ 255 → ⊥) }
-    ensures { kind_of result ≡ kind (side_of u) (side_of v) }
+// What a byte of a side says.
+pub fn side_of(cell: u8) -> Side
+    ensures { stands result ≡ side_of cell }
 {
-    if u < FIRST_PLACE {
-        if v < FIRST_PLACE {
-            if u == v {
-                return Kind::SameLetterTwice;
-            }
-            return Kind::DifferentLetters;
-        }
-        return Kind::LetterThenField;
+    if cell == USED {
+        Side::Used
+    } else if cell < FIRST_PLACE {
+        Side::Letter(cell)
+    } else {
+        Side::Place
     }
-    if v < FIRST_PLACE {
-        return Kind::FieldThenLetter;
-    }
-    Kind::TwoFields
 }
 
 // The kind of a location with u on the left and v on the right.
 pub fn kind_at(u: u8, v: u8) -> Kind
     ensures { kind_of result ≡ kind (side_of u) (side_of v) }
 {
-    if u == USED {
-        if v == USED {
-            return Kind::BothUsedUp;
-        }
-        return used_before(v);
+    match (side_of(u), side_of(v)) {
+        (Side::Letter(a), Side::Letter(b)) if a == b => Kind::SameLetterTwice,
+        (Side::Letter(_), Side::Letter(_)) => Kind::DifferentLetters,
+        (Side::Letter(_), Side::Place) => Kind::LetterThenField,
+        (Side::Place, Side::Letter(_)) => Kind::FieldThenLetter,
+        (Side::Place, Side::Place) => Kind::TwoFields,
+        (Side::Used, Side::Letter(_)) | (Side::Letter(_), Side::Used) => Kind::UsedUpBeforeLetter,
+        (Side::Used, Side::Place) | (Side::Place, Side::Used) => Kind::UsedUpBeforeField,
+        (Side::Used, Side::Used) => Kind::BothUsedUp,
     }
-    if v == USED {
-        return used_before(u);
-    }
-    crossing(u, v)
 }
 
 // How many clauses such a location has.
@@ -110,39 +99,19 @@ pub struct Census {
     pub times: [usize; LETTERS],
 }
 
-// How often each letter stands there, with letter a once more.
-fn once_more(times: [usize; LETTERS], a: usize) -> [usize; LETTERS]
-    requires { (a < 8) × (get_or times a 0 ≤ 24) }
-    ensures { (b : ℕ) → get_or result b 0 ≡ get_or times b 0 + as_this b (at_letter a) }
-{
-    let mut next = times;
-    next[a] = next[a] + 1;
-    next
-}
-
-// The census with one cell more.
-fn added(l: usize, census: Census, cell: u8) -> Census
-    requires { (l ≤ 8) × (cell ≡ 255 → ⊥) × Few census × (census.letters < 24) × (census.places < 24) }
-    ensures { Added l (side_of cell) census result }
-{
-    let letters = census.letters;
-    let places = census.places;
-    let own = census.own;
-    let times = census.times;
-    if cell < FIRST_PLACE {
-        let next = once_more(times, wide(cell));
-        return Census {
-            letters: letters + 1,
-            places,
-            own: own + kind_count(l, Kind::FieldThenLetter),
-            times: next,
-        };
-    }
-    Census {
-        letters,
-        places: places + 1,
-        own,
-        times,
+impl Census {
+    // One cell more.
+    fn add(&mut self, l: usize, cell: u8)
+        requires { (l ≤ 8) × (cell ≡ 255 → ⊥) × Few self.old × (self.old.letters < 24) × (self.old.places < 24) }
+        ensures { Added l (side_of cell) self.old self.new }
+    {
+        if cell < FIRST_PLACE {
+            self.letters += 1;
+            self.own += kind_count(l, Kind::FieldThenLetter);
+            self.times[usize::from(cell)] += 1;
+        } else {
+            self.places += 1;
+        }
     }
 }
 
@@ -157,10 +126,8 @@ pub fn census_of(l: usize, right: [u8; ROOM], n: usize) -> Census
         own: 0,
         times: [0; LETTERS],
     };
-    let mut j: usize = 0;
-    while j < n {
-        sum = added(l, sum, right[j]);
-        j += 1;
+    for j in 0..n {
+        sum.add(l, right[j]);
     }
     sum
 }
@@ -188,8 +155,7 @@ fn letter_row(l: usize, a: u8, right: Census) -> usize
     requires { (l ≤ 8) × (a < 8) × Few right }
     ensures { (result ≡ row_of l (at_letter a) right) × (result ≤ 275) }
 {
-    let times = right.times;
-    let same = times[wide(a)];
+    let same = right.times[usize::from(a)];
     several(same, l, Kind::SameLetterTwice)
         + several(right.letters - same, l, Kind::DifferentLetters)
         + several(right.places, l, Kind::LetterThenField)
@@ -209,11 +175,9 @@ pub fn row_count(l: usize, u: u8, right: Census) -> usize
     requires { (l ≤ 8) × Few right }
     ensures { (result ≡ row_of l (side_of u) right) × (result ≤ 275) }
 {
-    if u == USED {
-        return past_row(l, right);
+    match side_of(u) {
+        Side::Used => past_row(l, right),
+        Side::Letter(a) => letter_row(l, a, right),
+        Side::Place => open_row(l, right),
     }
-    if u < FIRST_PLACE {
-        return letter_row(l, u, right);
-    }
-    open_row(l, right)
 }

@@ -12,75 +12,35 @@ ghost use Rattle.formula.specs.Count.{standing, location_count, row_count, equat
 ghost use Rattle.shape.specs.Bytes.{side_bytes, side_of};
 ghost use Rattle.literals.specs.Name.{name_of};
 
+use kinds::{Side, side_of};
 use literals::ClauseId;
-use scan::wide;
-use shape::{FIRST_PLACE, ROOM, USED};
+use shape::ROOM;
 
-// Clause n of those of a location with a place of a field on the left and a cell on the right; l is the number of letters.
-fn at_field(l: usize, p: usize, i: usize, j: usize, v: u8, n: usize) -> ClauseId
-    requires { (v ≡ 255 → ⊥) × SideIn l (side_of v) × (n < location_count l at_field (side_of v)) }
-    ensures { name_of result ≡ get_or (standing l p i j at_field (side_of v)) n none }
-{
-    if n == 0 {
-        return ClauseId::Left(p, i, j);
-    }
-    if v < FIRST_PLACE {
-        if n == 1 {
-            return ClauseId::Both(p, i, j);
-        }
-        if n - 2 < wide(v) {
-            return ClauseId::Match(p, i, j, n - 2);
-        }
-        return ClauseId::Match(p, i, j, n - 1);
-    }
-    if n == 1 {
-        return ClauseId::Right(p, i, j);
-    }
-    if n == 2 {
-        return ClauseId::Both(p, i, j);
-    }
-    ClauseId::Match(p, i, j, n - 3)
-}
-
-// Clause n of those of a location, by what stands on its two sides; l is the number of letters.
+// Clause n of those of a location, by what stands on its two sides; l is the number of letters. A place against letter b has no Match of b itself.
 fn at_location(l: usize, p: usize, i: usize, j: usize, u: u8, v: u8, n: usize) -> ClauseId
     requires { (l ≤ 8) × SideIn l (side_of u) × SideIn l (side_of v) × (n < location_count l (side_of u) (side_of v)) }
     ensures { name_of result ≡ get_or (standing l p i j (side_of u) (side_of v)) n none }
 {
-    if u == USED {
-        if v < FIRST_PLACE {
-            return ClauseId::End(p, i, j);
+    match (side_of(u), side_of(v), n) {
+        (Side::Letter(_), Side::Letter(_), 0) => ClauseId::Both(p, i, j),
+        (Side::Letter(a), Side::Letter(_), _) => ClauseId::Match(p, i, j, usize::from(a)),
+        (Side::Letter(_), Side::Place, 0) => ClauseId::Right(p, i, j),
+        (Side::Letter(_), Side::Place, 1) => ClauseId::Both(p, i, j),
+        (Side::Letter(a), Side::Place, _) => ClauseId::Match(p, i, j, usize::from(a)),
+        (Side::Place, Side::Letter(_), 0) => ClauseId::Left(p, i, j),
+        (Side::Place, Side::Letter(_), 1) => ClauseId::Both(p, i, j),
+        (Side::Place, Side::Letter(b), _) if n - 2 < usize::from(b) => {
+            ClauseId::Match(p, i, j, n - 2)
         }
-        if n == 0 {
-            return ClauseId::Right(p, i, j);
-        }
-        return ClauseId::End(p, i, j);
+        (Side::Place, Side::Letter(_), _) => ClauseId::Match(p, i, j, n - 1),
+        (Side::Place, Side::Place, 0) => ClauseId::Left(p, i, j),
+        (Side::Place, Side::Place, 1) => ClauseId::Right(p, i, j),
+        (Side::Place, Side::Place, 2) => ClauseId::Both(p, i, j),
+        (Side::Place, Side::Place, _) => ClauseId::Match(p, i, j, n - 3),
+        (Side::Used, Side::Place, 0) => ClauseId::Right(p, i, j),
+        (Side::Place, Side::Used, 0) => ClauseId::Left(p, i, j),
+        (Side::Used, _, _) | (_, Side::Used, _) => ClauseId::End(p, i, j),
     }
-    if v == USED {
-        if u < FIRST_PLACE {
-            return ClauseId::End(p, i, j);
-        }
-        if n == 0 {
-            return ClauseId::Left(p, i, j);
-        }
-        return ClauseId::End(p, i, j);
-    }
-    if u < FIRST_PLACE {
-        if v < FIRST_PLACE {
-            if n == 0 {
-                return ClauseId::Both(p, i, j);
-            }
-            return ClauseId::Match(p, i, j, wide(u));
-        }
-        if n == 0 {
-            return ClauseId::Right(p, i, j);
-        }
-        if n == 1 {
-            return ClauseId::Both(p, i, j);
-        }
-        return ClauseId::Match(p, i, j, wide(u));
-    }
-    at_field(l, p, i, j, v, n)
 }
 
 // Clause n of those of a row of locations, those with cell i on the left, whose byte is u; `right` has the cells on the right.
@@ -91,14 +51,12 @@ fn in_row(sheet: &[u8], p: usize, i: usize, u: u8, right: [u8; ROOM], n: usize) 
     let letters = shape::letters(sheet);
     let width = shape::width(sheet, p, 1);
     let mut rest = n;
-    let mut j: usize = 0;
-    while j <= width {
+    for j in 0..width + 1 {
         let size = kinds::location_count(letters, u, right[j]);
         if rest < size {
             return at_location(letters, p, i, j, u, right[j], rest);
         }
-        rest = rest - size;
-        j += 1;
+        rest -= size;
     }
     ClauseId::Start(p)
 }
@@ -117,14 +75,12 @@ pub fn in_equation(sheet: &[u8], p: usize, n: usize) -> ClauseId
     let left = shape::side(sheet, p, 0);
     let right = shape::side(sheet, p, 1);
     let mut rest = n - 1;
-    let mut i: usize = 0;
-    while i <= m {
+    for i in 0..m + 1 {
         let size = kinds::row_count(letters, left[i], census);
         if rest < size {
             return in_row(sheet, p, i, left[i], right, rest);
         }
-        rest = rest - size;
-        i += 1;
+        rest -= size;
     }
     ClauseId::Start(p)
 }

@@ -20,10 +20,7 @@ fn lowest(c: i8, n: usize) -> i16
     requires { (nat_abs c ≤ 4) × (n ≤ 8) }
     ensures { result ≡ model.lowest c n }
 {
-    if c < 0 {
-        return (c as i16) * (n as i16);
-    }
-    0
+    if c < 0 { i16::from(c) * (n as i16) } else { 0 }
 }
 
 // A coefficient without its sign.
@@ -31,10 +28,7 @@ pub fn magnitude(c: i8) -> usize
     requires { nat_abs c ≤ 4 }
     ensures { result ≡ nat_abs c }
 {
-    if c < 0 {
-        return (0 - c) as usize;
-    }
-    c as usize
+    usize::from(c.unsigned_abs())
 }
 
 // The least sum of the first k fields under constraint r.
@@ -42,11 +36,9 @@ pub fn least(sheet: &[u8], r: usize, k: usize) -> i16
     requires { Admitted sheet.now × (r < length (sheet_of sheet.now).constraints) × (k ≤ length (sheet_of sheet.now).limits) }
     ensures { result ≡ model.least (sheet_of sheet.now) (constraint (sheet_of sheet.now) r) k }
 {
-    let mut sum: i16 = 0;
-    let mut f: usize = 0;
-    while f < k {
-        sum = sum + lowest(parts::coefficient(sheet, r, f), shape::limit(sheet, f));
-        f += 1;
+    let mut sum = 0;
+    for f in 0..k {
+        sum += lowest(parts::coefficient(sheet, r, f), shape::limit(sheet, f));
     }
     sum
 }
@@ -56,11 +48,9 @@ pub fn spread(sheet: &[u8], r: usize, k: usize) -> usize
     requires { Admitted sheet.now × (r < length (sheet_of sheet.now).constraints) × (k ≤ length (sheet_of sheet.now).limits) }
     ensures { (result ≡ model.spread (sheet_of sheet.now) (constraint (sheet_of sheet.now) r) k) × (result ≤ 192) }
 {
-    let mut sum: usize = 0;
-    let mut f: usize = 0;
-    while f < k {
-        sum = sum + magnitude(parts::coefficient(sheet, r, f)) * shape::limit(sheet, f);
-        f += 1;
+    let mut sum = 0;
+    for f in 0..k {
+        sum += magnitude(parts::coefficient(sheet, r, f)) * shape::limit(sheet, f);
     }
     sum
 }
@@ -77,11 +67,7 @@ pub fn within(sheet: &[u8], r: usize) -> usize
     if most < least {
         return 0;
     }
-    let d = ((most as i32) - (least as i32)) as usize;
-    if d < sums {
-        return d + 1;
-    }
-    sums
+    sums.min(usize::from(most.abs_diff(least)) + 1)
 }
 
 // The variables T of constraint r with fewer than k fields summed.
@@ -89,11 +75,9 @@ fn sums_before(sheet: &[u8], r: usize, k: usize) -> usize
     requires { Admitted sheet.now × (r < length (sheet_of sheet.now).constraints) × (k ≤ length (sheet_of sheet.now).limits + 1) }
     ensures { (result ≡ total k (row_size (sheet_of sheet.now) r)) × (result ≤ 679) }
 {
-    let mut sum: usize = 0;
-    let mut i: usize = 0;
-    while i < k {
-        sum = sum + spread(sheet, r, i) + 1;
-        i += 1;
+    let mut sum = 0;
+    for i in 0..k {
+        sum += spread(sheet, r, i) + 1;
     }
     sum
 }
@@ -115,11 +99,9 @@ fn parts_before(sheet: &[u8], section: Section, n: usize) -> usize
     requires { Admitted sheet.now × (n ≤ parts (sheet_of sheet.now) (section_of section)) }
     ensures { (result ≡ total n (variable_counts (sheet_of sheet.now) (section_of section))) × (result ≤ 2716) }
 {
-    let mut sum: usize = 0;
-    let mut i: usize = 0;
-    while i < n {
-        sum = sum + part_size(sheet, section, i);
-        i += 1;
+    let mut sum = 0;
+    for i in 0..n {
+        sum += part_size(sheet, section, i);
     }
     sum
 }
@@ -166,7 +148,7 @@ pub fn sum_number(sheet: &[u8], r: usize, k: usize, s: i16) -> usize
     requires { Admitted sheet.now × VariableIn (sheet_of sheet.now) (T r k s) }
     ensures { (result ≡ number (sheet_of sheet.now) (T r k s)) × (result ≤ 5648) }
 {
-    let offset = (s - least(sheet, r, k)) as usize;
+    let offset = usize::from(s.abs_diff(least(sheet, r, k)));
     1 + whole(sheet, Section::Fields)
         + whole(sheet, Section::Equations)
         + parts_before(sheet, Section::Constraints, r)

@@ -11,7 +11,7 @@ ghost use Rattle.model.specs.Cells.{place, symbol_cells, cells};
 ghost use Rattle.shape.specs.Bytes.{cell_byte, side_bytes};
 ghost use Rattle.shape.specs.Name.{section_of};
 
-use scan::{FIRST_FIELD, wide};
+use scan::FIRST_FIELD;
 
 // Room for the cells of a template, of which there are at most 24, and for what stands past the last.
 pub const ROOM: usize = 25;
@@ -37,28 +37,28 @@ pub fn letters(sheet: &[u8]) -> usize
     requires { Admitted sheet.now }
     ensures { result ≡ length (sheet_of sheet.now).letters }
 {
-    wide(parts::four_counts(sheet).letters)
+    usize::from(parts::four_counts(sheet).letters)
 }
 
 pub fn fields(sheet: &[u8]) -> usize
     requires { Admitted sheet.now }
     ensures { result ≡ length (sheet_of sheet.now).limits }
 {
-    wide(parts::four_counts(sheet).fields)
+    usize::from(parts::four_counts(sheet).fields)
 }
 
 pub fn equations(sheet: &[u8]) -> usize
     requires { Admitted sheet.now }
     ensures { result ≡ length (sheet_of sheet.now).equations }
 {
-    wide(parts::four_counts(sheet).equations)
+    usize::from(parts::four_counts(sheet).equations)
 }
 
 pub fn constraints(sheet: &[u8]) -> usize
     requires { Admitted sheet.now }
     ensures { result ≡ length (sheet_of sheet.now).constraints }
 {
-    wide(parts::four_counts(sheet).constraints)
+    usize::from(parts::four_counts(sheet).constraints)
 }
 
 // How many parts a section has.
@@ -78,7 +78,7 @@ pub fn limit(sheet: &[u8], f: usize) -> usize
     requires { Admitted sheet.now × (f < length (sheet_of sheet.now).limits) }
     ensures { (result ≡ model.limit (sheet_of sheet.now) f) × (result ≤ 8) }
 {
-    wide(parts::limit(sheet, f))
+    usize::from(parts::limit(sheet, f))
 }
 
 // The first places of field f, as many as n, at an offset of the buffer. Returns the offset past them.
@@ -86,12 +86,10 @@ fn put_places(buf: &mut [u8], at: usize, f: u8, n: u8) -> usize
     requires { (f < 6) × (n ≤ 8) × (at + n ≤ length buf.old) }
     ensures { Puts buf.old at (map cell_byte (map (place f) (up_to n))) buf.new result }
 {
-    let mut c: u8 = 0;
-    while c < n {
-        buf[at + wide(c)] = FIRST_PLACE + PLACES * f + c;
-        c += 1;
+    for c in 0..n {
+        buf[at + usize::from(c)] = FIRST_PLACE + PLACES * f + c;
     }
-    at + wide(n)
+    at + usize::from(n)
 }
 
 // The cells of a symbol.
@@ -104,7 +102,7 @@ fn put_symbol(buf: &mut [u8], at: usize, sheet: &[u8], symbol: u8) -> usize
         return at + 1;
     }
     let f = symbol - FIRST_FIELD;
-    put_places(buf, at, f, parts::limit(sheet, wide(f)))
+    put_places(buf, at, f, parts::limit(sheet, usize::from(f)))
 }
 
 // The cells of a template, from the front of the buffer on. Returns how many there are.
@@ -112,11 +110,9 @@ fn put_cells(buf: &mut [u8], sheet: &[u8], symbols: &[u8]) -> usize
     requires { Admitted sheet.now × All (SymbolIn (length (sheet_of sheet.now).letters) (length (sheet_of sheet.now).limits)) (map symbol_of symbols.now) × (length (cells (sheet_of sheet.now) (map symbol_of symbols.now)) ≤ length buf.old) }
     ensures { Puts buf.old 0 (map cell_byte (cells (sheet_of sheet.now) (map symbol_of symbols.now))) buf.new result }
 {
-    let mut at: usize = 0;
-    let mut i: usize = 0;
-    while i < symbols.len() {
-        at = put_symbol(buf, at, sheet, symbols[i]);
-        i += 1;
+    let mut at = 0;
+    for &symbol in symbols {
+        at = put_symbol(buf, at, sheet, symbol);
     }
     at
 }
@@ -133,12 +129,9 @@ fn expand(sheet: &[u8], p: usize, side: usize) -> Expansion
     requires { Admitted sheet.now × (p < length (sheet_of sheet.now).equations) }
     ensures { (result.cells ≡ side_bytes (cells (sheet_of sheet.now) (template (sheet_of sheet.now) p side))) × (result.width ≡ length (cells (sheet_of sheet.now) (template (sheet_of sheet.now) p side))) × (result.width ≤ 24) }
 {
-    let mut bytes = [USED; ROOM];
-    let width = put_cells(&mut bytes, sheet, parts::template(sheet, p, side));
-    Expansion {
-        cells: bytes,
-        width,
-    }
+    let mut cells = [USED; ROOM];
+    let width = put_cells(&mut cells, sheet, parts::template(sheet, p, side));
+    Expansion { cells, width }
 }
 
 // Its cells, as bytes.

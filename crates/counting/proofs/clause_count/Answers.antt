@@ -7,25 +7,6 @@ use Rattle.formula.proofs.Totals.{clause_count_lem}
 use Rattle.counting.proofs.Laws.{clauses_known}
 use Rattle.counting.proofs.clause_count.Goals as goal
 
-pub section_count-requires : goal.section_count-requires
-section_count-requires c = c.requires
-
-pub section_count-requires-2 : goal.section_count-requires-2
-section_count-requires-2 c =
-    c.requires
-
-pub overflow_add-result : goal.overflow_add-result
-overflow_add-result c = omega (arith, c.section_count.ensures, c.section_count-2.ensures)
-
-pub section_count-requires-3 : goal.section_count-requires-3
-section_count-requires-3 c =
-    c.requires
-
-pub overflow_add-result-2 : goal.overflow_add-result-2
-overflow_add-result-2 c =
-    let at-section-count = c.section_count in
-    omega (arith, at-section-count.ensures, c.section_count-2.ensures, c.section_count-3.ensures)
-
 pub returns : goal.returns
 returns c =
     let at-section-count = c.section_count in

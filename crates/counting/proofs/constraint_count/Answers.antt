@@ -11,16 +11,6 @@ use Rattle.counting.proofs.constraint_count.Lts as lts
 use Rattle.counting.proofs.constraint_count.Reads as reads
 use Rattle.counting.proofs.constraint_count.Tie as tie
 
-pub fields-requires : goal.fields-requires
-fields-requires c = c.requires.0
-
-pub spread-sums-requires : goal.spread-sums-requires
-spread-sums-requires c =
-    (c.requires.0, c.requires.1, omega (arith, c.fields.ensures))
-
-pub overflow_add-sums : goal.overflow_add-sums
-overflow_add-sums c = omega (arith, c.spread-sums.ensures)
-
 -- how far the final sums spread
 the-spread : (c : lts.After-spread tie.the-claims reads.Pre reads.Post) →
     let at-start = c.before.before.before in
@@ -30,27 +20,11 @@ the-spread c =
     let s = sheet_of at-start.args.sheet.now in
     c.spread-sums.ensures.0 ∙ ap (spread s (constraint s at-start.args.r)) c.fields.ensures
 
-pub steps_count-requires : goal.steps_count-requires
-steps_count-requires c =
-    c.requires
-
-pub overflow_add-result : goal.overflow_add-result
-overflow_add-result c = omega (arith, c.steps_count.ensures)
-
-pub within-requires : goal.within-requires
-within-requires c =
-    c.requires
-
 pub overflow_sub-result : goal.overflow_sub-result
 overflow_sub-result c =
     let place-spread = c.before.before.before in
     let s = sheet_of c.args.sheet.now in
     omega (arith, c.within.ensures, the-spread place-spread, within_le s (constraint s c.args.r))
-
-pub overflow_add-result-2 : goal.overflow_add-result-2
-overflow_add-result-2 c =
-    let at-spread = c.spread-sums in
-    omega (arith, c.steps_count.ensures, at-spread.ensures)
 
 pub returns : goal.returns
 returns c =

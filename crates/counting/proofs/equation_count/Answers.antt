@@ -1,6 +1,6 @@
 -- `counting::equation_count` meets its contract. The loop's invariant: the sum is one more than the total of the first i rows. Assumes nothing.
 use mathlib.Core.Path.{◌≡◌, sym, ap, ◌∙◌}
-use Prim.Native.Nat.{suc, ◌+◌, ◌-◌}
+use Prim.Native.Nat.{suc, ◌+◌}
 use native.Mathlib.Omega.{arith}
 use lib.ListN.{length}
 use Rattle.model.specs.Lists.{total}
@@ -11,43 +11,15 @@ use Rattle.model.proofs.Keeping.{total-more, total-none}
 use Rattle.counting.proofs.Laws.{survey_few, row-found, equation-known}
 use Rattle.counting.proofs.equation_count.Goals as goal
 
-pub letters-letters-requires : goal.letters-letters-requires
-letters-letters-requires c = c.requires.0
-
-pub width-m-requires : goal.width-m-requires
-width-m-requires c =
-    c.requires
-
-pub side-left-requires : goal.side-left-requires
-side-left-requires c =
-    c.requires
-
-pub survey-right-requires : goal.survey-right-requires
-survey-right-requires c =
-    c.requires
-
 pub loop-i-init : goal.loop-i-init
 loop-i-init c =
-    (omega arith, omega (arith, total-none (row_count (sheet_of c.args.sheet.now) c.args.p)), omega arith)
-
-pub bounds-left-i : goal.bounds-left-i
-bounds-left-i c =
-    omega (arith, c.width-m.ensures)
+    (omega (arith, total-none (row_count (sheet_of c.args.sheet.now) c.args.p)), omega arith)
 
 pub row_count-sum-requires : goal.row_count-sum-requires
 row_count-sum-requires c =
     let at-survey = c.before.before.before in
     let at-letters = at-survey.before.before.before in
     (omega (arith, at-letters.letters-letters.ensures, at-letters.requires.0.1.counts_in.of_letters), survey_few (sheet_of at-letters.args.sheet.now) at-letters.requires.0.1 at-letters.args.p at-letters.requires.1 at-survey.survey-right.result at-survey.survey-right.ensures)
-
-pub overflow_add-sum : goal.overflow_add-sum
-overflow_add-sum c =
-    let at-loop = c.loop-i in
-    omega (arith, c.width-m.ensures, at-loop.invariant, c.row_count-sum.ensures)
-
-pub overflow_add-i : goal.overflow_add-i
-overflow_add-i c =
-    omega (arith, c.width-m.ensures)
 
 pub loop-i-preserved : goal.loop-i-preserved
 loop-i-preserved c =
@@ -59,7 +31,7 @@ loop-i-preserved c =
     let s = sheet_of at-letters.args.sheet.now in
     let more = total-more l.i (row_count s at-letters.args.p) in
     let this = c.row_count-sum.ensures.0 ∙ row-found s at-letters.requires.0.1 at-letters.args.p at-letters.requires.1 at-survey.survey-right.result at-survey.survey-right.ensures at-letters.letters-letters.result at_Side.side-left.result at-letters.letters-letters.ensures at_Side.side-left.ensures l.i (omega (arith, at_width.width-m.ensures)) in
-    (omega arith, omega (arith, l.invariant), omega (arith, l.invariant, c.row_count-sum.ensures))
+    (omega (arith, l.invariant), omega (arith, l.invariant, c.row_count-sum.ensures))
 
 pub returns : goal.returns
 returns c =
@@ -68,4 +40,4 @@ returns c =
     let l = c.loop-i in
     let s = sheet_of a.sheet.now in
     let e : l.i ≡ suc (length (left_cells s a.p)) = omega (arith, l.invariant, at_width.width-m.ensures) in
-    (l.invariant.1 ∙ ap (λ k. 1 + total k (row_count s a.p)) e ∙ sym (equation-known s a.p), omega (arith, l.invariant, at_width.width-m.ensures))
+    (l.invariant.0 ∙ ap (λ k. 1 + total k (row_count s a.p)) e ∙ sym (equation-known s a.p), omega (arith, l.invariant, at_width.width-m.ensures))

@@ -1,12 +1,9 @@
 use mathlib.Core.Path.{◌≡◌}
-use Prim.Native.Nat.{◌+◌, ◌-◌, ◌*◌, ◌≤◌}
+use Prim.Native.Nat.{◌+◌, ◌*◌, ◌≤◌}
 use Rattle.model.specs.Lists.{total}
 use Rattle.model.specs.Sheet.{sheet_of}
 use Rattle.formula.specs.Count.{row_count}
 use Rattle.counting.proofs.equation_count.Given as goal
 
 abbrev pub invariant-loop-i : goal.invariant-loop-i
-invariant-loop-i l = (l.i ≤ l.m + 1) × (l.sum ≡ 1 + total l.i (row_count (sheet_of l.sheet) l.p)) × (l.sum ≤ 1 + l.i * 275)
-
-abbrev pub decreases-loop-i : goal.decreases-loop-i
-decreases-loop-i l = l.m + 1 - l.i
+invariant-loop-i l = (l.sum ≡ 1 + total l.i (row_count (sheet_of l.sheet) l.p)) × (l.sum ≤ 1 + l.i * 275)

@@ -1,31 +1,15 @@
 -- `counting::not_both_count` meets its contract. The loop's invariant: the sum is the total of the first a parts. Assumes nothing.
-use mathlib.Core.Path.{◌≡◌}
-use Prim.Native.Nat.{suc, ◌-◌}
 use native.Mathlib.Omega.{arith}
 use Rattle.model.proofs.Keeping.{total-more, total-none}
 use Rattle.counting.proofs.not_both_count.Goals as goal
 use Rattle.counting.proofs.not_both_count.Invariants.{part}
 
 pub loop-a-init : goal.loop-a-init
-loop-a-init c = (omega arith, omega (arith, total-none (part c.args.l)), omega arith)
-
-pub overflow_add-sum : goal.overflow_add-sum
-overflow_add-sum c =
-    omega (arith, c.requires, c.loop-a.invariant)
-
-pub overflow_add-a : goal.overflow_add-a
-overflow_add-a c =
-    omega (arith, c.requires)
+loop-a-init c = (omega (arith, total-none (part c.args.l)), omega arith)
 
 pub loop-a-preserved : goal.loop-a-preserved
 loop-a-preserved c =
     let l = c.args.l in
     let a = c.loop-a.a in
     let more = total-more a (part l) in
-    (omega arith, omega (arith, c.loop-a.invariant), omega (arith, c.requires, c.loop-a.invariant))
-
-pub returns : goal.returns
-returns c =
-    let e : c.loop-a.a ≡ suc c.args.l = omega (arith, c.loop-a.invariant) in
-    let i = c.loop-a.invariant in
-    (rw e at i.1, omega (arith, c.requires))
+    (omega (arith, c.loop-a.invariant), omega (arith, c.requires, c.loop-a.invariant))

@@ -1,5 +1,5 @@
 use mathlib.Core.Path.{◌≡◌}
-use Prim.Native.Nat.{ℕ, ◌+◌, ◌-◌, ◌*◌, ◌≤◌}
+use Prim.Native.Nat.{ℕ, ◌-◌, ◌*◌, ◌≤◌}
 use Rattle.model.specs.Lists.{total}
 use Rattle.counting.proofs.not_both_count.Given as goal
 
@@ -7,7 +7,4 @@ abbrev pub part : ℕ → ℕ → ℕ
 part l a = l - a
 
 abbrev pub invariant-loop-a : goal.invariant-loop-a
-invariant-loop-a l = (l.a ≤ l.l + 1) × (l.sum ≡ total l.a (part l.l)) × (l.sum ≤ l.a * 8)
-
-abbrev pub decreases-loop-a : goal.decreases-loop-a
-decreases-loop-a l = l.l + 1 - l.a
+invariant-loop-a l = (l.sum ≡ total l.a (part l.l)) × (l.sum ≤ l.a * 8)

@@ -1,12 +1,9 @@
 use mathlib.Core.Path.{◌≡◌}
-use Prim.Native.Nat.{◌-◌, ◌*◌, ◌≤◌}
+use Prim.Native.Nat.{◌*◌, ◌≤◌}
 use Rattle.model.specs.Lists.{total}
 use Rattle.model.specs.Sheet.{sheet_of}
 use Rattle.formula.specs.Count.{step_count}
 use Rattle.counting.proofs.steps_count.Given as goal
 
 abbrev pub invariant-loop-k : goal.invariant-loop-k
-invariant-loop-k l = (l.k ≤ l.fields) × (l.sum ≡ total l.k (step_count (sheet_of l.sheet) l.r)) × (l.sum ≤ l.k * 1737)
-
-abbrev pub decreases-loop-k : goal.decreases-loop-k
-decreases-loop-k l = l.fields - l.k
+invariant-loop-k l = (l.sum ≡ total l.k (step_count (sheet_of l.sheet) l.r)) × (l.sum ≤ l.k * 1737)

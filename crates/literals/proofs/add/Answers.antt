@@ -8,7 +8,6 @@ use mir.Val.{to_z, of_z}
 use Rattle.model.specs.Sheet.{Sheet, Constraint, sheet_of, constraint, coefficient}
 use Rattle.formula.specs.Clause.{T, terms}
 use Rattle.formula.specs.Numbering.{SumIn, number}
-use Rattle.formula.proofs.Small.{fields-few}
 use Rattle.formula.proofs.Integers.{sum_next}
 use Rattle.numbering.proofs.Laws.{sum_back}
 use Rattle.codes.specs.Nine.{nine}
@@ -38,26 +37,6 @@ module _ (start : lts.Start tie.the-claims reads.Pre reads.Post) where
   next-back : to_z w16 (of_z w16 (start.args.n +ℤ more)) ≡ start.args.n +ℤ more
   next-back = sum_back s start.requires.0.1 start.args.r (suc start.args.k) start.requires.1.0 (omega (arith, start.requires.1.1)) (start.args.n +ℤ more) in-sums
 
-pub sum_code-here-requires : goal.sum_code-here-requires
-sum_code-here-requires c =
-    rw (here_back c.before.before) (c.requires.0, (c.requires.1.0, omega (arith, c.requires.1.1), c.requires.1.2), omega arith)
-
-pub shorter-short-requires : goal.shorter-short-requires
-shorter-short-requires c =
-    (c.requires.0, c.requires.1.1, c.requires.1.3)
-
-pub longer-long-requires : goal.longer-long-requires
-longer-long-requires c =
-    (c.requires.0, c.requires.1.1)
-
-pub overflow_add-k : goal.overflow_add-k
-overflow_add-k c =
-    omega (arith, c.requires.1.1, fields-few (s c.before.before.before.before.before) c.requires.0.1)
-
-pub sum_with-requires : goal.sum_with-requires
-sum_with-requires c =
-    rw (here_back c.before.before.before.before.before) c.requires
-
 abbrev start_of : lts.After-sum_with tie.the-claims reads.Pre reads.Post → lts.Start tie.the-claims reads.Pre reads.Post
 start_of c = c.before.before.before.before.before
 
@@ -70,7 +49,7 @@ pub sum_code-next-requires : goal.sum_code-next-requires
 sum_code-next-requires c =
     let start = start_of c.before in
     let e : start.args.k + 1 ≡ suc start.args.k = omega arith in
-    rw (next-is c.before, e) (start.requires.0, (start.requires.1.0, omega (arith, start.requires.1.1), in-sums start), omega arith)
+    rw (next-is c.before, e) (start.requires.0, (start.requires.1.0, omega (arith, start.requires.1.1), in-sums start))
 
 pub returns : goal.returns
 unfolding nine terms

@@ -10,20 +10,9 @@ use Rattle.codes.specs.Nine.{nine}
 use Rattle.codes.proofs.Laws.{same-nine}
 use Rattle.literals.proofs.blank_tail.Goals as goal
 
-pub letters-letters-requires : goal.letters-letters-requires
-letters-letters-requires c = c.requires.0
-
-pub place_code-here-requires : goal.place_code-here-requires
-place_code-here-requires c =
-    (c.requires.0, (c.requires.1.0, omega (arith, c.letters-letters.ensures)), omega arith)
-
 pub overflow_add-c : goal.overflow_add-c
 overflow_add-c c =
     omega (arith, c.requires.1.1, limit-small (sheet_of c.args.sheet.now) c.requires.0.1 c.args.f)
-
-pub place_code-next-requires : goal.place_code-next-requires
-place_code-next-requires c =
-    (c.requires.0, ((c.requires.1.0.0, omega (arith, c.requires.1.1)), omega (arith, c.letters-letters.ensures)), omega arith)
 
 pub returns : goal.returns
 unfolding nine terms

@@ -13,17 +13,9 @@ use Rattle.codes.specs.Nine.{nine}
 use Rattle.codes.proofs.Laws.{same-nine}
 use Rattle.literals.proofs.bound.Goals as goal
 
-pub fields-requires : goal.fields-requires
-fields-requires c = c.requires.0
-
-pub sum_code-requires : goal.sum_code-requires
-sum_code-requires c =
-    let s = sheet_of c.args.sheet.now in
-    rw (c.fields.ensures, sum_back s c.requires.0.1 c.args.r (length s.limits) c.requires.1.0 (omega arith) c.args.n c.requires.1.1) (c.requires.0, (c.requires.1.0, omega arith, c.requires.1.1), omega arith)
-
 pub returns : goal.returns
 unfolding nine terms
 returns c =
     let s = sheet_of c.args.sheet.now in
     let n = ap (λ k. 2 * number s (T c.args.r k (to_z w16 (of_z w16 c.args.n))) + 1) c.fields.ensures ∙ ap (λ z. 2 * number s (T c.args.r (length s.limits) z) + 1) (sum_back s c.requires.0.1 c.args.r (length s.limits) c.requires.1.0 (omega arith) c.args.n c.requires.1.1) in
-    same-nine (c.sum_code.ensures ∙ n) refl refl refl
+    same-nine (c.sum_code-last.ensures ∙ n) refl refl refl

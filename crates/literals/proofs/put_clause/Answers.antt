@@ -9,19 +9,15 @@ use Rattle.literals.specs.Name.{name_of}
 use Rattle.literals.proofs.Laws.{nine-line}
 use Rattle.literals.proofs.put_clause.Goals as goal
 
-pub codes-codes-requires : goal.codes-codes-requires
-codes-codes-requires c =
-    (c.requires.0, c.requires.1)
-
 pub clause_line-requires : goal.clause_line-requires
 clause_line-requires c =
-    let at-codes = c.codes-codes in
+    let at-codes = c.codes in
     let e = ap length (ap codes_line at-codes.ensures ∙ nine-line (sheet_of c.args.sheet.now) (name_of c.args.id)) in
     omega (arith, c.requires.2)
 
 pub returns : goal.returns
 returns c =
-    let at-codes = c.codes-codes in
+    let at-codes = c.codes in
     let at-clause-line = c.clause_line in
     let e = ap codes_line at-codes.ensures ∙ nine-line (sheet_of c.args.sheet.now) (name_of c.args.id) in
     subst (λ w. Puts c.args.buf.now c.args.at w at-clause-line.new.buf at-clause-line.result) e at-clause-line.ensures

@@ -1,12 +1,9 @@
 use mathlib.Core.Path.{◌≡◌}
 use mathlib.Core.List.{◌++◌, map}
-use Prim.Native.Nat.{◌+◌, ◌-◌, ◌*◌, ◌≤◌}
+use Prim.Native.Nat.{◌+◌, ◌*◌}
 use lib.ListN.{drop, replicate}
 use Rattle.model.specs.Lists.{up_to}
 use Rattle.literals.proofs.some_value.Given as goal
 
 abbrev pub invariant-loop-a : goal.invariant-loop-a
-invariant-loop-a l = (l.a ≤ l.letters + 1) × (l.codes ≡ map (λ k. 2 * (l.first + k)) (up_to l.a) ++ drop l.a (replicate 9 0))
-
-abbrev pub decreases-loop-a : goal.decreases-loop-a
-decreases-loop-a l = l.letters + 1 - l.a
+invariant-loop-a l = l.codes ≡ map (λ k. 2 * (l.first + k)) (up_to l.a) ++ drop l.a (replicate 9 0)

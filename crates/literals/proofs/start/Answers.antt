@@ -6,9 +6,6 @@ use Rattle.codes.specs.Nine.{nine}
 use Rattle.codes.proofs.Laws.{same-nine}
 use Rattle.literals.proofs.start.Goals as goal
 
-pub location_code-requires : goal.location_code-requires
-location_code-requires c = (c.requires.0, (c.requires.1, omega arith, omega arith), omega arith)
-
 pub returns : goal.returns
 unfolding nine terms
 returns c = same-nine (omega (arith, c.location_code.ensures)) refl refl refl

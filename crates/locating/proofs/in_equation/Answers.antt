@@ -1,15 +1,14 @@
 -- `locating::in_equation` meets its contract. The loop's invariant: rest is the number among the clauses of the rows from i on. Assumes nothing.
 use mathlib.Core.Path.{◌≡◌, ap, subst, ◌∙◌}
-use Prim.Native.Nat.{suc, ◌+◌, ◌-◌, ◌<◌}
+use Prim.Native.Nat.{suc, ◌-◌, ◌<◌}
 use native.Mathlib.Omega.{arith}
 use lib.ListN.{length, get_or}
-use Rattle.model.specs.Lists.{total}
 use Rattle.model.specs.Sheet.{sheet_of}
 use Rattle.formula.specs.Clause.{left_cells}
-use Rattle.formula.specs.Count.{row_count, equation_start}
+use Rattle.formula.specs.Count.{row_count}
 use Rattle.formula.proofs.Small.{letters-few}
 use Rattle.counting.proofs.Laws.{survey_few, row-found, equation-known}
-use Rattle.locating.proofs.Laws.{at_first, at_next, never_past, same_number, start-found}
+use Rattle.locating.proofs.Laws.{at_first, at_next, never_past, start-found}
 use Rattle.locating.proofs.in_equation.Goals as goal
 use Rattle.locating.proofs.in_equation.Lts as lts
 use Rattle.locating.proofs.in_equation.Reads as reads
@@ -20,40 +19,10 @@ returns-then-n-eq0 c =
     let s = sheet_of c.args.sheet.now in
     start-found s c.requires.0.1 c.args.p c.requires.1 c.args.n c.if-n-eq0.true
 
-pub letters-letters-requires : goal.letters-letters-requires
-letters-letters-requires c =
-    c.requires.0
-
-pub width-m-requires : goal.width-m-requires
-width-m-requires c =
-    (c.requires.0, c.requires.1)
-
-pub survey-census-requires : goal.survey-census-requires
-survey-census-requires c =
-    (c.requires.0, c.requires.1)
-
-pub side-left-requires : goal.side-left-requires
-side-left-requires c =
-    (c.requires.0, c.requires.1)
-
-pub side-right-requires : goal.side-right-requires
-side-right-requires c =
-    (c.requires.0, c.requires.1)
-
-pub overflow_sub-rest : goal.overflow_sub-rest
-overflow_sub-rest c =
-    let at-if1 = c.if-n-eq0 in
-    omega (arith, at-if1.false)
-
 pub loop-i-init : goal.loop-i-init
 loop-i-init c =
     let s = sheet_of c.args.sheet.now in
-    (omega arith, at_first (row_count s c.args.p) (c.args.n - 1))
-
-pub bounds-left-i : goal.bounds-left-i
-bounds-left-i c =
-    let at_width = c.width-m in
-    omega (arith, at_width.ensures)
+    at_first (row_count s c.args.p) (c.args.n - 1)
 
 pub row_count-size-requires : goal.row_count-size-requires
 row_count-size-requires c =
@@ -76,11 +45,6 @@ the_size c =
     let s = sheet_of at-start.args.sheet.now in
     c.row_count-size.ensures.0 ∙ row-found s at-start.requires.0.1 at-start.args.p at-start.requires.1 at-survey.result at-survey.ensures at-letters.result at_Side.result at-letters.ensures at_Side.ensures at-loop.i (omega (arith, at_width.ensures))
 
-pub bounds-left-i-then-rest-size : goal.bounds-left-i-then-rest-size
-bounds-left-i-then-rest-size c =
-    let at_width = c.width-m in
-    omega (arith, at_width.ensures)
-
 pub in_row-requires : goal.in_row-requires
 in_row-requires c =
     let at_width = c.width-m in
@@ -89,23 +53,11 @@ in_row-requires c =
     let at-side2 = c.side-right in
     (c.requires.0, c.requires.1, omega (arith, at_width.ensures), ap (λ b. get_or b at-loop.i 0) at_Side.ensures, at-side2.ensures, subst (λ n. at-loop.rest < n) (the_size c.before.before) c.if-rest-size.true)
 
-pub returns-then-rest-size : goal.returns-then-rest-size
-returns-then-rest-size c =
-    let at-loop = c.loop-i in
-    let at-if1 = c.if-n-eq0 in
-    let s = sheet_of c.args.sheet.now in
-    same_number s _ (equation_start s c.args.p + (1 + (total at-loop.i (row_count s c.args.p) + at-loop.rest))) (equation_start s c.args.p + c.args.n) c.in_row.ensures (omega (arith, at-loop.invariant.1, at-if1.false))
-
-pub overflow_add-i : goal.overflow_add-i
-overflow_add-i c =
-    let at_width = c.width-m in
-    omega (arith, at_width.ensures)
-
 pub loop-i-preserved : goal.loop-i-preserved
 loop-i-preserved c =
     let at-loop = c.loop-i in
     let s = sheet_of c.args.sheet.now in
-    (omega arith, at_next (row_count s c.args.p) (c.args.n - 1) at-loop.i at-loop.rest c.row_count-size.result at-loop.invariant.1 (the_size c.before.before) c.if-rest-size.false)
+    at_next (row_count s c.args.p) (c.args.n - 1) at-loop.i at-loop.rest c.row_count-size.result at-loop.invariant (the_size c.before.before) c.if-rest-size.false
 
 pub returns : goal.returns
 returns c =
@@ -113,4 +65,4 @@ returns c =
     let at_width = c.width-m in
     let s = sheet_of c.args.sheet.now in
     let e = equation-known s c.args.p in
-    never_past (row_count s c.args.p) (c.args.n - 1) (suc (length (left_cells s c.args.p))) c.loop-i.i c.loop-i.rest (omega (arith, c.requires.2, at-if1.false)) (omega (arith, c.loop-i.invariant, at_width.ensures)) c.loop-i.invariant.1
+    never_past (row_count s c.args.p) (c.args.n - 1) (suc (length (left_cells s c.args.p))) c.loop-i.i c.loop-i.rest (omega (arith, c.requires.2, at-if1.false)) (omega (arith, c.loop-i.invariant, at_width.ensures)) c.loop-i.invariant

@@ -1,12 +1,9 @@
 use mathlib.Core.Path.{◌≡◌}
-use Prim.Native.Nat.{◌+◌, ◌-◌, ◌≤◌}
+use Prim.Native.Nat.{◌+◌}
 use Rattle.model.specs.Lists.{total}
 use Rattle.model.specs.Sheet.{sheet_of}
 use Rattle.formula.specs.Count.{location_size}
 use Rattle.locating.proofs.in_row.Given as goal
 
 abbrev pub invariant-loop-j : goal.invariant-loop-j
-invariant-loop-j l = (l.j ≤ l.width + 1) × (total l.j (location_size (sheet_of l.sheet) l.p l.i) + l.rest ≡ l.n)
-
-abbrev pub decreases-loop-j : goal.decreases-loop-j
-decreases-loop-j l = l.width + 1 - l.j
+invariant-loop-j l = total l.j (location_size (sheet_of l.sheet) l.p l.i) + l.rest ≡ l.n

@@ -16,16 +16,13 @@ use Rattle.moves.proofs.both.Tie as tie
 few : (c : lts.Start tie.the-claims reads.Pre reads.Post) → (c.args.i ≤ 24) × (c.args.j ≤ 24)
 few c = location_few (sheet_of c.args.sheet.now) c.requires.0.1 c.args.p c.args.i c.args.j c.requires.1.0
 
-pub location_code-here-requires : goal.location_code-here-requires
-location_code-here-requires c = (c.requires.0, c.requires.1.0, omega arith)
-
 pub blank_code-first-requires : goal.blank_code-first-requires
 blank_code-first-requires c =
-    (c.requires.0, c.requires.1.0.0, omega (arith, few c.before.before.before), omega arith)
+    (c.requires.0, c.requires.1.0.0, omega (arith, few c.before.before.before))
 
 pub blank_code-second-requires : goal.blank_code-second-requires
 blank_code-second-requires c =
-    (c.requires.0, c.requires.1.0.0, omega (arith, few c.before.before.before.before), omega arith)
+    (c.requires.0, c.requires.1.0.0, omega (arith, few c.before.before.before.before))
 
 pub overflow_add-i : goal.overflow_add-i
 overflow_add-i c =
@@ -34,10 +31,6 @@ overflow_add-i c =
 pub overflow_add-j : goal.overflow_add-j
 overflow_add-j c =
     omega (arith, few c.before.before.before.before.before)
-
-pub location_code-next-requires : goal.location_code-next-requires
-location_code-next-requires c =
-    (c.requires.0, (c.requires.1.0.0, omega (arith, c.requires.1), omega (arith, c.requires.1)), omega arith)
 
 pub returns : goal.returns
 unfolding nine terms

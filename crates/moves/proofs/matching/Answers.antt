@@ -15,20 +15,17 @@ use Rattle.moves.proofs.matching.Tie as tie
 few : (c : lts.Start tie.the-claims reads.Pre reads.Post) → (c.args.i ≤ 24) × (c.args.j ≤ 24)
 few c = location_few (sheet_of c.args.sheet.now) c.requires.0.1 c.args.p c.args.i c.args.j c.requires.1.0
 
-pub location_code-here-requires : goal.location_code-here-requires
-location_code-here-requires c = (c.requires.0, c.requires.1.0, omega arith)
-
 pub blank_code-blank-requires : goal.blank_code-blank-requires
 blank_code-blank-requires c =
-    (c.requires.0, c.requires.1.0.0, omega (arith, few c.before.before.before), omega arith)
+    (c.requires.0, c.requires.1.0.0, omega (arith, few c.before.before.before))
 
 pub cell_code-u-requires : goal.cell_code-u-requires
 cell_code-u-requires c =
-    (c.requires.0, c.requires.1.0.0, omega (arith, few c.before.before.before.before), omega (arith, c.requires.1), omega arith)
+    (c.requires.0, c.requires.1.0.0, omega (arith, few c.before.before.before.before), omega (arith, c.requires.1))
 
 pub cell_code-v-requires : goal.cell_code-v-requires
 cell_code-v-requires c =
-    (c.requires.0, c.requires.1.0.0, omega (arith, few c.before.before.before.before.before), omega (arith, c.requires.1), omega arith)
+    (c.requires.0, c.requires.1.0.0, omega (arith, few c.before.before.before.before.before), omega (arith, c.requires.1))
 
 pub returns : goal.returns
 unfolding nine terms

@@ -1,6 +1,6 @@
 -- `numbering::least` meets its contract. The loop's invariant: the least sum of the first f fields, in its bits. Assumes nothing.
 use mathlib.Core.Path.{◌≡◌, refl, sym, ap, ◌∙◌}
-use Prim.Native.Nat.{◌+◌, ◌-◌, ◌≤◌}
+use Prim.Native.Nat.{◌+◌, ◌≤◌}
 use native.Mathlib.Omega.{arith}
 use lib.IntN.{nat_abs, ◌+ℤ◌}
 use mir.Syntax.{w8, w16}
@@ -17,15 +17,7 @@ use Rattle.numbering.proofs.least.Tie as tie
 
 pub loop-f-init : goal.loop-f-init
 unfolding least
-loop-f-init c = (omega arith, refl)
-
-pub coefficient-requires : goal.coefficient-requires
-coefficient-requires c =
-    (c.requires.0.0, c.requires.1, omega (arith, c.requires.2))
-
-pub limit-requires : goal.limit-requires
-limit-requires c =
-    (c.requires.0, omega (arith, c.requires.2))
+loop-f-init c = refl
 
 small : (c : lts.After-coefficient tie.the-claims reads.Pre reads.Post goal.the-invariant-loop-f goal.the-decreases-loop-f) → nat_abs c.coefficient.result ≤ 4
 small c =
@@ -54,7 +46,7 @@ next c =
     let back = small_back w8 at-coefficient.result (omega (arith, small place-coefficient)) in
     let is = c.lowest-sum.ensures ∙ ap (λ z. lowest z c.limit.result) (back ∙ at-coefficient.ensures) ∙ ap (lowest (coefficient r l.f)) c.limit.ensures.0 in
     let term = lowest-small (coefficient r l.f) (limit s l.f) (coefficient_few s at-start.requires.0.1 at-start.args.r at-start.requires.1 l.f) (limit-small s at-start.requires.0.1 l.f) in
-    let sum = l.invariant.1 in
+    let sum = l.invariant in
     rw (sum, is, small_back w16 (lowest (coefficient r l.f) (limit s l.f)) (omega arith)) (sym (least_more s r l.f))
 
 pub overflow_add-sum : goal.overflow_add-sum
@@ -68,11 +60,4 @@ pub loop-f-preserved : goal.loop-f-preserved
 loop-f-preserved c =
     let s = sheet_of c.args.sheet.now in
     let k = c.loop-f.f + 1 in
-    (omega arith, rw (next c.before) (small_back w16 (least s (constraint s c.args.r) k) (omega (arith, least-small s c.requires.0.1 c.args.r c.requires.1 k, fields-few s c.requires.0.1, c.requires.2))))
-
-pub returns : goal.returns
-returns c =
-    let s = sheet_of c.args.sheet.now in
-    let l = c.loop-f in
-    let e : l.f ≡ c.args.k = omega arith in
-    l.invariant.1 ∙ ap (least s (constraint s c.args.r)) e
+    rw (next c.before) (small_back w16 (least s (constraint s c.args.r) k) (omega (arith, least-small s c.requires.0.1 c.args.r c.requires.1 k, fields-few s c.requires.0.1, c.requires.2)))

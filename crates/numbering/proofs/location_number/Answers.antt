@@ -14,25 +14,8 @@ use Rattle.numbering.proofs.location_number.Lts as lts
 use Rattle.numbering.proofs.location_number.Reads as reads
 use Rattle.numbering.proofs.location_number.Tie as tie
 
-pub whole-requires : goal.whole-requires
-whole-requires c = c.requires.0
-
 pub overflow_add-result : goal.overflow_add-result
 overflow_add-result c = omega (arith, c.whole.ensures.1)
-
-pub parts_before-requires : goal.parts_before-requires
-parts_before-requires c =
-    (c.requires.0, omega (arith, c.requires.1.0))
-
-pub overflow_add-result-2 : goal.overflow_add-result-2
-overflow_add-result-2 c = omega (arith, c.whole.ensures.1, c.parts_before.ensures.1)
-
-pub width-requires : goal.width-requires
-width-requires c =
-    (c.requires.0, c.requires.1.0)
-
-pub overflow_add-result-3 : goal.overflow_add-result-3
-overflow_add-result-3 c = omega (arith, c.width.ensures.1)
 
 product : (c : lts.After-width tie.the-claims reads.Pre reads.Post) → c.args.i * (c.width.result + 1) ≤ 600
 product c =

@@ -13,19 +13,8 @@ use Rattle.numbering.proofs.place_number.Lts as lts
 use Rattle.numbering.proofs.place_number.Reads as reads
 use Rattle.numbering.proofs.place_number.Tie as tie
 
-pub parts_before-requires : goal.parts_before-requires
-parts_before-requires c = (c.requires.0, omega (arith, c.requires.1.0))
-
 pub overflow_add-result : goal.overflow_add-result
 overflow_add-result c = omega (arith, c.parts_before.ensures.1)
-
-pub letters-requires : goal.letters-requires
-letters-requires c =
-    c.requires.0
-
-pub overflow_add-result-2 : goal.overflow_add-result-2
-overflow_add-result-2 c =
-    omega (arith, c.letters.ensures, letters-few (sheet_of c.args.sheet.now) c.requires.0.1)
 
 product : (c : lts.After-letters tie.the-claims reads.Pre reads.Post) → c.args.c * (c.letters.result + 1) ≤ 72
 product c =

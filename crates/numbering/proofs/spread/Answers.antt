@@ -1,6 +1,6 @@
 -- `numbering::spread` meets its contract. The loop's invariant: the spread of the first f fields. Assumes nothing.
 use mathlib.Core.Path.{◌≡◌, refl, sym, ap, ◌∙◌}
-use Prim.Native.Nat.{◌-◌, ◌*◌, ◌≤◌}
+use Prim.Native.Nat.{◌*◌, ◌≤◌}
 use native.Mathlib.Nat.{mul-le-mul}
 use native.Mathlib.Omega.{arith}
 use lib.IntN.{nat_abs}
@@ -17,11 +17,7 @@ use Rattle.numbering.proofs.spread.Tie as tie
 
 pub loop-f-init : goal.loop-f-init
 unfolding spread
-loop-f-init c = (omega arith, refl)
-
-pub coefficient-requires : goal.coefficient-requires
-coefficient-requires c =
-    (c.requires.0.0, c.requires.1, omega (arith, c.requires.2))
+loop-f-init c = refl
 
 small : (c : lts.After-coefficient tie.the-claims reads.Pre reads.Post goal.the-invariant-loop-f goal.the-decreases-loop-f) → nat_abs c.coefficient.result ≤ 4
 small c =
@@ -31,10 +27,6 @@ small c =
 
 pub magnitude-requires : goal.magnitude-requires
 magnitude-requires c = rw (small_back w8 c.coefficient.result (omega (arith, small c.before))) (small c.before)
-
-pub limit-requires : goal.limit-requires
-limit-requires c =
-    (c.requires.0, omega (arith, c.requires.2))
 
 -- the product that is added
 term : (c : lts.After-limit tie.the-claims reads.Pre reads.Post goal.the-invariant-loop-f goal.the-decreases-loop-f) →
@@ -52,20 +44,17 @@ term c =
     let e : nat_abs (coefficient (constraint s at-start.args.r) at-loop.f) * limit s at-loop.f ≤ 4 * 8 = mul-le-mul (coefficient_few s at-start.requires.0.1 at-start.args.r at-start.requires.1 at-loop.f) (limit-small s at-start.requires.0.1 at-loop.f) in
     rw (is, c.limit.ensures.0) (omega arith, refl)
 
-pub overflow_mul-sum : goal.overflow_mul-sum
-overflow_mul-sum c = omega (arith, term c.before)
-
 pub overflow_add-sum : goal.overflow_add-sum
 overflow_add-sum c =
     let at-loop = c.loop-f in
     let s = sheet_of c.args.sheet.now in
-    omega (arith, term c.before, at-loop.invariant.1, spread-small s c.requires.0.1 c.args.r c.requires.1 at-loop.f, fields-few s c.requires.0.1, c.requires.2)
+    omega (arith, term c.before, at-loop.invariant, spread-small s c.requires.0.1 c.args.r c.requires.1 at-loop.f, fields-few s c.requires.0.1, c.requires.2)
 
 pub loop-f-preserved : goal.loop-f-preserved
 loop-f-preserved c =
     let at-loop = c.loop-f in
     let s = sheet_of c.args.sheet.now in
-    (omega arith, rw (at-loop.invariant.1, (term c.before).1) (sym (spread-more s (constraint s c.args.r) at-loop.f)))
+    rw (at-loop.invariant, (term c.before).1) (sym (spread-more s (constraint s c.args.r) at-loop.f))
 
 pub returns : goal.returns
 returns c =
@@ -73,4 +62,4 @@ returns c =
     let l = c.loop-f in
     let e : l.f ≡ c.args.k = omega arith in
     let n = spread-small s c.requires.0.1 c.args.r c.requires.1 l.f in
-    (l.invariant.1 ∙ ap (spread s (constraint s c.args.r)) e, omega (arith, l.invariant.1, fields-few s c.requires.0.1, c.requires.2))
+    (l.invariant ∙ ap (spread s (constraint s c.args.r)) e, omega (arith, l.invariant, fields-few s c.requires.0.1, c.requires.2))

@@ -5,25 +5,6 @@ use Rattle.formula.specs.Numbering.{variable_count}
 use Rattle.formula.proofs.Small.{variables-small}
 use Rattle.numbering.proofs.variable_count.Goals as goal
 
-pub whole-requires : goal.whole-requires
-whole-requires c = c.requires
-
-pub whole-requires-2 : goal.whole-requires-2
-whole-requires-2 c =
-    c.requires
-
-pub overflow_add-result : goal.overflow_add-result
-overflow_add-result c = omega (arith, c.whole.ensures.1, c.whole-2.ensures.1)
-
-pub whole-requires-3 : goal.whole-requires-3
-whole-requires-3 c =
-    c.requires
-
-pub overflow_add-result-2 : goal.overflow_add-result-2
-overflow_add-result-2 c =
-    let at-whole = c.whole in
-    omega (arith, at-whole.ensures.1, c.whole-2.ensures.1, c.whole-3.ensures.1)
-
 pub returns : goal.returns
 unfolding variable_count
 returns c =

@@ -2,10 +2,6 @@
 use Rattle.shape.proofs.Laws.{can_put, put_expands}
 use Rattle.shape.proofs.expand.Goals as goal
 
-pub template-requires : goal.template-requires
-template-requires c =
-    (c.requires.0.0, c.requires.1)
-
 pub put_cells-width-requires : goal.put_cells-width-requires
 put_cells-width-requires c =
     can_put c.args.sheet.now c.requires.0 c.args.p c.requires.1 c.args.side c.template.result.now c.template.ensures

@@ -5,10 +5,7 @@ use Rattle.model.specs.Sheet.{sheet_of}
 use Rattle.formula.proofs.Small.{limit-small}
 use Rattle.shape.proofs.limit.Goals as goal
 
-pub limit-requires : goal.limit-requires
-limit-requires c = (c.requires.0.0, c.requires.1)
-
 pub returns : goal.returns
 returns c =
     let small = limit-small (sheet_of c.args.sheet.now) c.requires.0.1 c.args.f in
-    (c.wide.ensures.0 ∙ c.limit.ensures, omega (arith, c.wide.ensures.0, c.limit.ensures))
+    (c.from.ensures ∙ c.limit.ensures, omega (arith, c.from.ensures, c.limit.ensures))

@@ -1,7 +1,6 @@
--- `shape::put_cells` meets its contract. The loop's invariant: the cells of the first i symbols have been written. Assumes nothing.
+-- `shape::put_cells` meets its contract. The loop's invariant: the cells of the symbols so far have been written. Assumes nothing.
 use mathlib.Core.Path.{sym, subst}
 use mathlib.Core.List.{map}
-use Prim.Native.Nat.{◌-◌}
 use native.Mathlib.Omega.{arith}
 use lib.ListN.{length, get_or, length-map, get_or-map}
 use Rattle.model.specs.Sheet.{symbol_of, sheet_of}
@@ -10,45 +9,35 @@ use Rattle.model.specs.Cells.{symbol_cells}
 use Rattle.model.proofs.Lists.{at}
 use Rattle.model.proofs.Seams.{Written, nothing, more}
 use Rattle.shape.specs.Bytes.{cell_byte}
-use Rattle.shape.proofs.Laws.{taken_none, taken-all, taken_more, taken-room}
+use Rattle.shape.proofs.Laws.{taken_none, taken_more, taken-room}
 use Rattle.shape.proofs.put_cells.Goals as goal
 
-pub loop-i-init : goal.loop-i-init
-loop-i-init c =
+pub loop-symbol-init : goal.loop-symbol-init
+loop-symbol-init c =
     let a = c.args in
-    (omega arith, subst (λ p. Written a.buf.now 0 p a.buf.now 0) (sym (taken_none (sheet_of a.sheet.now) a.symbols.now)) (nothing a.buf.now 0))
+    subst (λ p. Written a.buf.now 0 p a.buf.now 0) (sym (taken_none (sheet_of a.sheet.now) a.symbols.now)) (nothing a.buf.now 0)
 
 pub put_symbol-at-requires : goal.put_symbol-at-requires
 put_symbol-at-requires c =
-    let at-loop = c.loop-i in
-    let at-loop-test = c.loop-i-test in
+    let at-loop = c.loop-symbol in
+    let at-loop-test = c.loop-symbol-test in
     let a = c.args in
     let l = at-loop in
     let s = sheet_of a.sheet.now in
     let P = SymbolIn (length s.letters) (length s.limits) in
-    let one = at P (map symbol_of a.symbols.now) l.i (symbol_of 0) c.requires.1 (omega (arith, length-map a.symbols.now symbol_of, at-loop-test.true)) in
-    (c.requires.0, subst P (get_or-map symbol_of a.symbols.now l.i 0) one, omega (arith, l.invariant.1, c.requires.2, taken-room s a.symbols.now l.i at-loop-test.true))
+    let one = at P (map symbol_of a.symbols.now) l.symbol-index (symbol_of 0) c.requires.1 (omega (arith, length-map a.symbols.now symbol_of, at-loop-test.true)) in
+    (c.requires.0, subst P (get_or-map symbol_of a.symbols.now l.symbol-index 0) one, omega (arith, l.invariant, c.requires.2, taken-room s a.symbols.now l.symbol-index at-loop-test.true))
 
-pub loop-i-preserved : goal.loop-i-preserved
-loop-i-preserved c =
-    let at-loop = c.loop-i in
+pub loop-symbol-preserved : goal.loop-symbol-preserved
+loop-symbol-preserved c =
+    let at-loop = c.loop-symbol in
     let at-put-symbol = c.put_symbol-at in
-    let at-loop-test = c.loop-i-test in
+    let at-loop-test = c.loop-symbol-test in
     let a = c.args in
     let l = at-loop in
     let s = sheet_of a.sheet.now in
     let put = at-put-symbol in
-    let room = taken-room s a.symbols.now l.i at-loop-test.true in
-    let us = symbol_cells s (symbol_of (get_or a.symbols.now l.i 0)) in
-    let next = more (map cell_byte us) put.new.buf put.result l.invariant.1 put.ensures put.auto.buf (omega (arith, c.requires.2, length-map us cell_byte)) in
-    (omega arith, subst (λ p. Written a.buf.now 0 p put.new.buf put.result) (sym (taken_more s a.symbols.now l.i at-loop-test.true)) next)
-
-pub shape_of-buf : goal.shape_of-buf
-shape_of-buf c = c.loop-i.invariant.1.long
-
-pub returns : goal.returns
-returns c =
-    let a = c.args in
-    let l = c.loop-i in
-    let w = subst (λ p. Written a.buf.now 0 p l.buf l.at) (taken-all (sheet_of a.sheet.now) a.symbols.now l.i (omega arith)) l.invariant.1 in
-    (omega (arith, w.past), w.holds)
+    let room = taken-room s a.symbols.now l.symbol-index at-loop-test.true in
+    let us = symbol_cells s (symbol_of (get_or a.symbols.now l.symbol-index 0)) in
+    let next = more (map cell_byte us) put.new.buf put.result l.invariant put.ensures put.auto.buf (omega (arith, c.requires.2, length-map us cell_byte)) in
+    subst (λ p. Written a.buf.now 0 p put.new.buf put.result) (sym (taken_more s a.symbols.now l.symbol-index at-loop-test.true)) next
