@@ -1,5 +1,6 @@
 // Which field parts a box of lengths. It is one whose length is open; that is all that is promised. Which one decides how fast the search is: best is a field
-// at which the equation that failed last stands, or else one whose open fields are used the fewest times; then one at which many walks stand.
+// at which the equation that failed last stands, or else one whose open fields are used the fewest times; then one at which many walks stand. It is made
+// without `bounds`, so a box comes as lo and hi.
 #![tactic(auto)]
 
 ghost use Rattle.std.specs.Prelude.{ℕ, ◌<◌, ◌≤◌, get_or, IfSome};
@@ -31,7 +32,7 @@ fn added(n: u8, points: u8) -> u8
     if n < ENOUGH { n + points } else { n }
 }
 
-// How often the cells from o to e are the byte b, as far as it bears on the choice.
+// How often the cells from o to e are the byte b, as far as it bears on the choice: a `count` would not stop at ENOUGH.
 fn used(x: &[u8], o: usize, e: usize, b: u8) -> u8 {
     let mut n = 0;
     for i in o..e.min(x.len()) {
@@ -46,6 +47,7 @@ fn used(x: &[u8], o: usize, e: usize, b: u8) -> u8 {
 pub fn uses(x: &[u8], w: &[u8]) -> Uses {
     let mut uses = [[0; FIELDS]; EQUATIONS];
     let mut o = 0;
+    // widths by index: there may be more than those of four equations
     for q in 0..EQUATIONS.min(w.len() / 2) {
         let e = o + usize::from(w[2 * q]) + usize::from(w[2 * q + 1]);
         for f in 0..FIELDS {

@@ -1,13 +1,12 @@
 -- The steps of the code: rows put one after the other. Assumes nothing.
 use mathlib.Core.Path.{◌≡◌, refl, sym, ap, ap₂, subst, ◌∙◌}
-use mathlib.Core.Bool.{Bool, true, false, not}
+use mathlib.Core.Bool.{Bool, true, false}
 use mathlib.Core.List.{List, [], ◌∷◌, ◌++◌, map, append-nil}
 use Prim.Native.Nat.{ℕ, ◌+◌, ◌*◌, ◌<◌, ◌≤◌}
 use native.Mathlib.Nat.{mul-add, mul-le-mul_left}
 use native.Mathlib.Omega.{arith}
 use lib.ListN.{length, get_or, take, length-append, length-map}
-use lib.Seq.{take_all, drop-drop}
-use borrow.Rule.Slice.PartMut.{put_mid}
+use lib.Seq.{take_all}
 use Rattle.model.specs.Lists.{each, when, All, Puts, placed}
 use Rattle.model.specs.Sheet.{Sheet, symbol_byte, sheet_of, template}
 use Rattle.model.specs.Range.{Admitted}
@@ -24,10 +23,6 @@ pub template-short : (b : List ℕ) (ok : Admitted b) (p : ℕ) (h : p < length 
 template-short b ok p h k t is =
     let n = ap length is ∙ length-map (template (sheet_of b) p k) symbol_byte in
     omega (arith, (template_in (sheet_of b) ok.1 p h k).count)
-
--- a part that has come back, in its place
-pub placed_back : (s p : List ℕ) (at n : ℕ) → length p ≡ n → put_mid at n s p ≡ placed s at p
-placed_back s p at n e = rw (← e, drop-drop (length p) at s)
 
 -- How many numbers rows have, and rows that are put only if asked.
 flat_size : (rows : List (List ℕ)) → All (λ row. length row ≡ 14) rows → length (flat rows) ≡ 14 * length rows
@@ -46,9 +41,9 @@ asked_size false rows h = omega arith
 
 -- none, one and two rows put from row i on
 module _ (i : ℕ) where
-  pub no_rows : (before : List ℕ) (m : Bool) (rows : List (List ℕ)) → not m ≡ true → Puts before (14 * i) (flat (when m rows)) before (14 * i)
+  pub no_rows : (before : List ℕ) (m : Bool) (rows : List (List ℕ)) → m ≡ false → Puts before (14 * i) (flat (when m rows)) before (14 * i)
   unfolding each
-  no_rows before true rows h = never h
+  no_rows before true rows h = never (sym h)
   no_rows before false rows h = let none = nothing before (14 * i) in (none.past, none.holds)
 
   pub one_row : (before after row : List ℕ) → length row ≡ 14 → after ≡ placed before (14 * i) row → Puts before (14 * i) (flat (row ∷ [])) after (14 * (i + 1))

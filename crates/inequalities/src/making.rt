@@ -24,7 +24,7 @@ fn slot(symbol: u8) -> u8
     }
 }
 
-// How often the symbols of a slot occur in a template.
+// How often the symbols of a slot occur in a template; in `balance`, how often one symbol does.
 fn occurrences(template: &[u8], k: u8) -> u16
     requires { length template.now ≤ 12 }
     ensures { result ≡ specs.occurrences (map symbol_of template.now) k }
@@ -53,6 +53,7 @@ pub fn equation_row(left: &[u8], right: &[u8]) -> Row
 {
     let mut row = [0; ROW_SIZE];
     for f in 0..FIELDS {
+        // a field's number fits a byte, but a `u8` is had from a `usize` by a cast alone
         row[f] = excess(left, right, f as u8);
         row[SIDE + f] = excess(right, left, f as u8);
     }

@@ -2,7 +2,6 @@
 use mathlib.Core.Path.{ap, ap₂, ◌∙◌}
 use Prim.Native.Nat.{◌+◌, ◌*◌}
 use native.Mathlib.Omega.{arith}
-use borrow.Author.Tests.{not-false}
 use Rattle.model.specs.Lists.{placed}
 use Rattle.model.specs.Sheet.{sheet_of, equation}
 use Rattle.shape.proofs.Laws.{symbols-are}
@@ -14,7 +13,7 @@ use Rattle.gathering.proofs.put_equation.Goals as goal
 pub returns-then-not-mark : goal.returns-then-not-mark
 returns-then-not-mark c =
     let a = c.args in
-    no_rows a.i a.rows.now a.mark _ c.if-not-mark.true-raw
+    no_rows a.i a.rows.now a.mark _ c.if-not-mark.true
 
 -- both templates are short, and what they say
 pub equation_row-requires : goal.equation_row-requires
@@ -44,7 +43,7 @@ returns c =
     let second = c.put_row-2 in
     let left = symbols-are a.sheet.now c.requires.0 a.p c.requires.1 0 c.template-left.result.now c.template-left.ensures in
     let right = symbols-are a.sheet.now c.requires.0 a.p c.requires.1 1 c.template-right.result.now c.template-right.ensures in
-    rw (not-false a.mark c.if-not-mark.false-raw)
+    rw c.if-not-mark.false
     (two_rows a.i a.rows.now first.new.rows second.new.rows _ _ (equation-row_size e.left e.right) (equation-row_size e.right e.left)
     c.requires.2
     (first.ensures ∙ ap (placed a.rows.now (14 * a.i)) (c.equation_row.ensures ∙ ap₂ equation_row left right))
