@@ -1,9 +1,8 @@
 -- `substitution::check` meets its contract: the sheet's refusal, or the check of the filling. Assumes nothing.
-use mathlib.Core.Path.{◌≡◌, sym, ap, ◌∙◌}
+use mathlib.Core.Path.{sym, ◌∙◌}
 use Rattle.std.proofs.lemmas.Result.{err_from_is_err_and}
 use Rattle.calls.specs.Calls.{checking}
 use Rattle.calls.proofs.Operations.{sheet_refused, sheet_accepted}
-use Rattle.sheet.specs.Answer.{number_of}
 use Rattle.substitution.proofs.check.Goals as goal
 
 pub check_filling-requires : goal.check_filling-requires

@@ -1,11 +1,9 @@
 -- `substitution::check_filling` meets its contract: the filling's refusal, or the test. Assumes nothing.
-use mathlib.Core.Path.{◌≡◌, sym, ap, ◌∙◌}
+use mathlib.Core.Path.{sym}
 use Rattle.std.proofs.lemmas.Result.{err_from_is_err_and}
 use Rattle.model.specs.Sheet.{sheet_of}
 use Rattle.model.specs.Filling.{filling}
 use Rattle.calls.proofs.Operations.{filling-refused}
-use Rattle.calls.specs.Calls.{finished, judgement_values}
-use Rattle.fields.specs.Answer.{IsAdmitted, number_of}
 use Rattle.substitution.proofs.check_filling.Goals as goal
 
 pub admit-requires : goal.admit-requires

@@ -1,9 +1,9 @@
 -- `substitution::spell` meets its contract: the refusals in their order, or the template spelled. Assumes nothing.
-use mathlib.Core.Path.{◌≡◌, sym, ap, ◌∙◌}
+use mathlib.Core.Path.{sym, ap, ◌∙◌}
 use native.Mathlib.Omega.{arith}
 use lib.ListN.{length}
 use Rattle.std.proofs.lemmas.Result.{err_from_is_err_and}
-use Rattle.model.specs.Sheet.{Counts, sheet_of}
+use Rattle.model.specs.Sheet.{Counts}
 use Rattle.calls.proofs.Operations.{spelling_sheet, spelling-equation, spelling-side, spelling_on, leaves_all}
 use Rattle.substitution.proofs.spell.Goals as goal
 

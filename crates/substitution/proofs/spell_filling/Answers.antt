@@ -13,7 +13,6 @@ use Rattle.model.proofs.Seams.{front_is, front_fits, front_length, placed_front}
 use Rattle.model.proofs.Templates.{template_in}
 use Rattle.model.proofs.Words.{spell_over}
 use Rattle.calls.proofs.Operations.{spelling-filling, spelling-room, spelling-text, leaves_all, leaves_text}
-use Rattle.fields.specs.Answer.{IsAdmitted, number_of}
 use Rattle.fields.specs.Memory.{texts_of, meaning}
 use Rattle.words.proofs.Meaning.{word-is, can_spell}
 use Rattle.substitution.proofs.spell_filling.Goals as goal
