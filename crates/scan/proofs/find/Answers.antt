@@ -1,4 +1,4 @@
--- `scan::bytes::find` meets its contract: the first x from the offset on, or the length. Assumes nothing.
+-- `scan::find` meets its contract: the first x from the offset on, or the length. Assumes nothing.
 use mathlib.Core.Path.{◌≡◌}
 use native.Mathlib.Omega.{arith}
 use lib.ListN.{length, take, drop, length-drop}
@@ -13,10 +13,10 @@ use borrow.Author.Tests.{tests}
 use Rattle.model.specs.Lists.{span}
 use Rattle.model.proofs.Spans.{span-short}
 use Rattle.scan.proofs.Words.{span-first}
-use Rattle.scan.proofs.bytes.find.Goals as goal
-use Rattle.scan.proofs.bytes.find.Lts as lts
-use Rattle.scan.proofs.bytes.find.Reads as reads
-use Rattle.scan.proofs.bytes.find.Tie as tie
+use Rattle.scan.proofs.find.Goals as goal
+use Rattle.scan.proofs.find.Lts as lts
+use Rattle.scan.proofs.find.Reads as reads
+use Rattle.scan.proofs.find.Tie as tie
 
 module _ (c : lts.After-position tie.the-claims reads.Pre reads.Post tie.handed_clauses) where
   abbrev rest : List ℕ
