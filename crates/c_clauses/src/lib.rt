@@ -12,7 +12,7 @@ pub fn line(sheet: &[u8], line: u64, text: &mut [u8]) -> i64
     ensures { Handed (writing sheet.now line (length text.old)) text.old result text.new }
 {
     match encoding::write_line(sheet, line as usize, text) {
-        encoding::Writing::Length(n) => n as i64,
-        encoding::Writing::Refused(refusal) => minus(encoding::number(refusal)),
+        Ok(n) => n as i64,
+        Err(refusal) => minus(u8::from(refusal)),
     }
 }

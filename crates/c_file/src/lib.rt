@@ -13,14 +13,14 @@ pub fn count(sheet: &[u8], counts: &mut [u64; 3]) -> i64
     ensures { (result ≡ returned (counting sheet.now)) × (counts.new ≡ lent_after (counting sheet.now) counts.old) }
 {
     match filing::count(sheet) {
-        filing::Counting::Refused(refusal) => minus(sheet::number(refusal)),
-        filing::Counting::Counts(found) => {
+        Ok(found) => {
             let variables = found.variables as u64;
             let clauses = found.clauses as u64;
             let bytes = found.bytes as u64;
             *counts = [variables, clauses, bytes];
             0
         }
+        Err(first) => minus(u8::from(first)),
     }
 }
 
@@ -29,7 +29,7 @@ pub fn file(sheet: &[u8], file: &mut [u8]) -> i64
     ensures { Handed (filing sheet.now (length file.old)) file.old result file.new }
 {
     match filing::write_file(sheet, file) {
-        filing::Filing::Length(n) => n as i64,
-        filing::Filing::Refused(refusal) => minus(filing::number(refusal)),
+        Ok(n) => n as i64,
+        Err(refusal) => minus(u8::from(refusal)),
     }
 }

@@ -13,7 +13,7 @@ pub fn reply(sheet: &[u8], reply: &[u8], filling: &mut [u8]) -> i64
     ensures { HandedOver (replying sheet.now reply.now (length filling.old)) filling.old result filling.new }
 {
     match decoding::read_reply(sheet, reply, filling) {
-        decoding::Reply::Accepted => 0,
-        decoding::Reply::Refused(refusal) => minus(decoding::number(refusal)),
+        Ok(()) => 0,
+        Err(refusal) => minus(u8::from(refusal)),
     }
 }

@@ -7,7 +7,7 @@ ghost use Rattle.formula.specs.Dimacs.{most_file};
 ghost use Rattle.calls.specs.Report.{clauses_printed};
 
 use input::read_full;
-use sheet::{ENOUGH, Reading};
+use sheet::ENOUGH;
 use std::io;
 
 // Room for any file: line 0 and at most 47,600 others, each of at most 38 bytes.
@@ -32,7 +32,7 @@ fn answer(sheet: &[u8], out: &mut [u8]) -> usize
     ensures { Puts out.old 0 (clauses_printed sheet.now) out.new result }
 {
     match sheet::read(sheet) {
-        Reading::Refused(refusal) => report::refusal(out, sheet::number(refusal)),
-        Reading::Accepted(_) => rendering::put_file(out, sheet),
+        Err(refusal) => report::refusal(out, u8::from(refusal)),
+        Ok(_) => rendering::put_file(out, sheet),
     }
 }

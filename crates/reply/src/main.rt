@@ -8,7 +8,6 @@ ghost use Rattle.model.specs.Sheet.{sheet_of};
 ghost use Rattle.calls.specs.Calls.{replying};
 ghost use Rattle.calls.specs.Report.{most_report, printed};
 
-use decoding::Reply;
 use fields::{FIELD_BYTES, MOST_BYTES};
 use input::read_full;
 use report::MOST_REPORT;
@@ -59,8 +58,8 @@ fn answer(sheet: &[u8], text: &[u8], out: &mut [u8]) -> usize
 {
     let mut filling = [0u8; MOST_BYTES];
     match decoding::read_reply(sheet, text, &mut filling) {
-        Reply::Refused(refusal) => report::refusal(out, decoding::number(refusal)),
-        Reply::Accepted => {
+        Err(refusal) => report::refusal(out, u8::from(refusal)),
+        Ok(()) => {
             let size = FIELD_BYTES * shape::fields(sheet);
             report::write(sheet, &filling[..size], out)
         }

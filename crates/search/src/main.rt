@@ -33,9 +33,9 @@ fn answer(sheet: &[u8], out: &mut [u8]) -> usize
 {
     let mut filling = [0u8; MOST_BYTES];
     match automaton::search(sheet, &mut filling) {
-        Verdict::Refused(refusal) => report::refusal(out, automaton::number(refusal)),
-        Verdict::Unsatisfiable => words::put(out, 0, b"apart\n"),
-        Verdict::Solution => {
+        Err(refusal) => report::refusal(out, u8::from(refusal)),
+        Ok(Verdict::Unsatisfiable) => words::put(out, 0, b"apart\n"),
+        Ok(Verdict::Solution) => {
             let size = FIELD_BYTES * shape::fields(sheet);
             report::write(sheet, &filling[..size], out)
         }

@@ -8,11 +8,9 @@
 
 ghost use Rattle.std.specs.Prelude.{◌≡◌, ◌≤◌, length, take};
 
-use decoding::Reply;
-use hexadecimal::{after, decode, find};
-use input::read_full;
+use hexadecimal::decode;
 use std::io;
-use vectors::{lent, next, room, show_bytes, show_refused};
+use vectors::{lent, run, show_bytes, show_refused};
 
 // Room for a sheet's bytes. Document 01 accepts none of more than 159.
 const SHEET: usize = 256;
@@ -29,33 +27,19 @@ const LENT: usize = 64;
 
 // Shows each vector of standard input, of which the first 65,536 bytes are read.
 fn main(rt: HostRuntime) -> io::Result<()> {
-    let mut buf = room();
-    let n = read_full(&mut rt.stdin(), &mut buf);
-    show_vectors(&rt, &buf[..n])
-}
-
-// Shows each vector of a text.
-fn show_vectors(rt: &impl Print, text: &[u8]) -> io::Result<()> {
-    let mut at = next(rt, text, 0)?;
-    while at < text.len() {
-        let end = find(text, at, b'\n');
-        show_vector(rt, &text[at..end])?;
-        at = next(rt, text, end + 1)?;
-    }
-    Ok(())
+    run(&rt, |vector| show_vector(&rt, vector))
 }
 
 // Prints the answer to a vector: a sheet, the length of the lent buffer and a text.
 fn show_vector(rt: &impl Print, text: &[u8]) -> io::Result<()> {
-    let first = find(text, 0, b';');
-    let second = find(text, after(text, first), b';');
+    let mut parts = text.splitn(3, |x| *x == b';');
     let mut sheet = [0u8; SHEET];
     let mut asked = [0u8; 1];
     let mut reply = text_room();
-    // The colon and the first semicolon are no digits, and are passed over.
-    let n = decode(&text[..first], &mut sheet);
-    decode(&text[first..second], &mut asked);
-    let m = unescape(&text[after(text, second)..], &mut reply);
+    // The colon is no digit, and is passed over.
+    let n = decode(parts.next().unwrap_or(&[]), &mut sheet);
+    decode(parts.next().unwrap_or(&[]), &mut asked);
+    let m = unescape(parts.next().unwrap_or(&[]), &mut reply);
     show_read(rt, &sheet[..n], &reply[..m], asked[0])
 }
 
@@ -73,12 +57,9 @@ fn unescape(text: &[u8], out: &mut [u8]) -> usize
 {
     let mut n = 0;
     let mut escaped = false;
-    let mut i = 0;
-    while i < text.len() {
-        let x = text[i];
-        n = put(out, n, meant(escaped, x), times(escaped, x));
-        escaped = escapes(escaped, x);
-        i += 1;
+    for x in text {
+        n = put(out, n, meant(escaped, *x), times(escaped, *x));
+        escaped = escapes(escaped, *x);
     }
     n
 }
@@ -122,14 +103,9 @@ fn put(out: &mut [u8], from: usize, x: u8, times: usize) -> usize
     requires { from ≤ length out.old }
     ensures { result ≤ length out.new }
 {
-    let mut at = from;
-    let mut left = times;
-    while at < out.len() && left > 0 {
-        out[at] = x;
-        at += 1;
-        left -= 1;
-    }
-    at
+    let end = from + times.min(out.len() - from);
+    out[from..end].fill(x);
+    end
 }
 
 // Lends a buffer full of dots, as long as is asked, and prints what reading a reply answers.
@@ -141,10 +117,9 @@ fn show_read(rt: &impl Print, sheet: &[u8], text: &[u8], asked: u8) -> io::Resul
 
 // Prints what reading a reply answers, and the lent buffer as it then is, between bars.
 fn show_reply(rt: &impl Print, sheet: &[u8], text: &[u8], buf: &mut [u8]) -> io::Result<()> {
-    let reply = decoding::read_reply(sheet, text, buf);
-    match reply {
-        Reply::Accepted => rt.write_all(b": accepted")?,
-        Reply::Refused(refusal) => show_refused(rt, decoding::number(refusal))?,
+    match decoding::read_reply(sheet, text, buf) {
+        Ok(()) => rt.write_all(b": accepted")?,
+        Err(refusal) => show_refused(rt, u8::from(refusal))?,
     }
     rt.write_all(b" |")?;
     show_bytes(rt, buf)?;

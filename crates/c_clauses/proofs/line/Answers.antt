@@ -20,12 +20,12 @@ use Rattle.c_clauses.proofs.line.Tie as tie
 
 -- the answer is a length, of a line that was written
 answers : (c : lts.Past-After-known_told tie.the-claims reads.Pre reads.Post) →
-    sized (writing c.args.sheet.now c.args.line (length c.args.text.now)) ≡ finished (c.in-Length.n ∷ [])
+    sized (writing c.args.sheet.now c.args.line (length c.args.text.now)) ≡ finished (c.in-Ok.n ∷ [])
 answers c =
     let at-write-line = c.write_line in
-    sym at-write-line.ensures.0 ∙ ap lined c.in-Length.is
+    sym at-write-line.ensures.0 ∙ ap lined c.in-Ok.is
 
-small : (c : lts.Past-After-known_told tie.the-claims reads.Pre reads.Post) → c.in-Length.n ≤ 80
+small : (c : lts.Past-After-known_told tie.the-claims reads.Pre reads.Post) → c.in-Ok.n ≤ 80
 small c =
     let at-shared-slice-known = c.shared_slice_known-1 in
     let t = sized-finished (writing c.args.sheet.now c.args.line (length c.args.text.now)) (answers c) in
@@ -35,14 +35,14 @@ small c =
 pub overflow_cast-result : goal.overflow_cast-result
 overflow_cast-result c = record { sfits = omega (arith, small c.before) }
 
-pub returns-in-Length : goal.returns-in-Length
-returns-in-Length c =
+pub returns-in-Ok : goal.returns-in-Ok
+returns-in-Ok c =
     let at-write-line = c.write_line in
-    (to_z_pos w64 c.in-Length.n (omega (arith, small c.before)) ∙ sym (ap returned_number (answers c.before)), at-write-line.ensures.1)
+    (to_z_pos w64 c.in-Ok.n (omega (arith, small c.before)) ∙ sym (ap returned_number (answers c.before)), at-write-line.ensures.1)
 
-pub returns-in-Refused : goal.returns-in-Refused
-returns-in-Refused c =
+pub returns-in-Err : goal.returns-in-Err
+returns-in-Err c =
     let at-write-line = c.write_line in
-    let f = c.in-Refused.refusal in
-    let e : sized (writing c.args.sheet.now c.args.line (length c.args.text.now)) ≡ refused (number_of f) = sym at-write-line.ensures.0 ∙ ap lined c.in-Refused.is in
-    (minus_told c.number.ensures c.minus.ensures ∙ sym (ap returned_number e), at-write-line.ensures.1)
+    let f = c.in-Err.refusal in
+    let e : sized (writing c.args.sheet.now c.args.line (length c.args.text.now)) ≡ refused (number_of f) = sym at-write-line.ensures.0 ∙ ap lined c.in-Err.is in
+    (minus_told c.from.ensures c.minus.ensures ∙ sym (ap returned_number e), at-write-line.ensures.1)

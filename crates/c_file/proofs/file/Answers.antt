@@ -21,12 +21,12 @@ use Rattle.c_file.proofs.file.Tie as tie
 
 -- the answer is a length, of the file that was written
 answers : (c : lts.Past-After-known_told tie.the-claims reads.Pre reads.Post) →
-    sized (filing c.args.sheet.now (length c.args.file.now)) ≡ finished (c.in-Length.n ∷ [])
+    sized (filing c.args.sheet.now (length c.args.file.now)) ≡ finished (c.in-Ok.n ∷ [])
 answers c =
     let at-write-file = c.write_file in
-    sym at-write-file.ensures.0 ∙ ap filed c.in-Length.is
+    sym at-write-file.ensures.0 ∙ ap filed c.in-Ok.is
 
-small : (c : lts.Past-After-known_told tie.the-claims reads.Pre reads.Post) → c.in-Length.n ≤ most_file
+small : (c : lts.Past-After-known_told tie.the-claims reads.Pre reads.Post) → c.in-Ok.n ≤ most_file
 small c =
     let at-shared-slice-known = c.shared_slice_known-1 in
     let t = sized-finished (filing c.args.sheet.now (length c.args.file.now)) (answers c) in
@@ -36,14 +36,14 @@ small c =
 pub overflow_cast-result : goal.overflow_cast-result
 overflow_cast-result c = record { sfits = omega (arith, small c.before) }
 
-pub returns-in-Length : goal.returns-in-Length
-returns-in-Length c =
+pub returns-in-Ok : goal.returns-in-Ok
+returns-in-Ok c =
     let at-write-file = c.write_file in
-    (to_z_pos w64 c.in-Length.n (omega (arith, small c.before)) ∙ sym (ap returned_number (answers c.before)), at-write-file.ensures.1)
+    (to_z_pos w64 c.in-Ok.n (omega (arith, small c.before)) ∙ sym (ap returned_number (answers c.before)), at-write-file.ensures.1)
 
-pub returns-in-Refused : goal.returns-in-Refused
-returns-in-Refused c =
+pub returns-in-Err : goal.returns-in-Err
+returns-in-Err c =
     let at-write-file = c.write_file in
-    let f = c.in-Refused.refusal in
-    let e : sized (filing c.args.sheet.now (length c.args.file.now)) ≡ refused (number_of f) = sym at-write-file.ensures.0 ∙ ap filed c.in-Refused.is in
-    (minus_told c.number.ensures c.minus.ensures ∙ sym (ap returned_number e), at-write-file.ensures.1)
+    let f = c.in-Err.refusal in
+    let e : sized (filing c.args.sheet.now (length c.args.file.now)) ≡ refused (number_of f) = sym at-write-file.ensures.0 ∙ ap filed c.in-Err.is in
+    (minus_told c.from.ensures c.minus.ensures ∙ sym (ap returned_number e), at-write-file.ensures.1)

@@ -19,13 +19,13 @@ call c e =
     let a = c.args in
     (decision-number (searching a.sheet.now (length a.filling.now)) (sym e ∙ c.search.ensures.0), c.search.ensures.1)
 
-pub returns-in-Solution : goal.returns-in-Solution
-returns-in-Solution c = call c.before.before.before.before (ap searched c.in-Solution.is)
+pub returns-in-Ok-Solution : goal.returns-in-Ok-Solution
+returns-in-Ok-Solution c = call c.before.before.before.before (ap searched c.in-Ok-Solution.is)
 
-pub returns-in-Unsatisfiable : goal.returns-in-Unsatisfiable
-returns-in-Unsatisfiable c = call c.before.before.before.before (ap searched c.in-Unsatisfiable.is)
+pub returns-in-Ok-Unsatisfiable : goal.returns-in-Ok-Unsatisfiable
+returns-in-Ok-Unsatisfiable c = call c.before.before.before.before (ap searched c.in-Ok-Unsatisfiable.is)
 
-pub returns-in-Refused : goal.returns-in-Refused
-returns-in-Refused c =
-    let d = call c.before.before.before.before.before.before (ap searched c.in-Refused.is) in
-    (minus_told c.number.ensures c.minus.ensures ∙ d.0, d.1)
+pub returns-in-Err : goal.returns-in-Err
+returns-in-Err c =
+    let d = call c.before.before.before.before.before.before (ap searched c.in-Err.is) in
+    (minus_told c.from.ensures c.minus.ensures ∙ d.0, d.1)

@@ -29,7 +29,7 @@ clean : (c : lts.Past-After-enum_told tie.the-claims reads.Pre reads.Post) → B
 clean c = lent_bytes (start c).args.sheet.now c.shared_slice_known-1.given
 
 told : (c : lts.Past-After-enum_told tie.the-claims reads.Pre reads.Post) → replied c.read_reply.result ≡ finished []
-told c = ap replied c.in-Accepted.is
+told c = ap replied c.in-Ok.is
 
 handed : (c : lts.Past-After-enum_told tie.the-claims reads.Pre reads.Post) →
     let at-read-reply = c.read_reply in
@@ -64,16 +64,16 @@ write-requires c =
     let clash = (accepted_clashes b (start at_fields.before).args.text.now (replicate 54 0) at-read-reply.new.buf _ at-read-reply.ensures (clean at_fields.before) (told at_fields.before)).0 in
     (rw at_fields.fields-size.ensures clash, omega (arith, (start at_fields.before).requires))
 
-pub returns-in-Refused : goal.returns-in-Refused
-returns-in-Refused c =
+pub returns-in-Err : goal.returns-in-Err
+returns-in-Err c =
     let a = c.args in
-    let e : replying a.sheet.now a.text.now 54 ≡ refused (number_of c.in-Refused.refusal) = refused-is (replying a.sheet.now a.text.now 54) (sym (ap replied c.in-Refused.is) ∙ c.read_reply.ensures.0) in
-    let line : refused_line c.number.result ≡ printed (sheet_of a.sheet.now) (replying a.sheet.now a.text.now 54) = ap refused_line c.number.ensures ∙ sym (ap (printed (sheet_of a.sheet.now)) e) in
+    let e : replying a.sheet.now a.text.now 54 ≡ refused (number_of c.in-Err.refusal) = refused-is (replying a.sheet.now a.text.now 54) (sym (ap replied c.in-Err.is) ∙ c.read_reply.ensures.0) in
+    let line : refused_line c.from.result ≡ printed (sheet_of a.sheet.now) (replying a.sheet.now a.text.now 54) = ap refused_line c.from.ensures ∙ sym (ap (printed (sheet_of a.sheet.now)) e) in
     let w = c.refusal in
     subst (λ p. Puts a.out.now 0 p w.new.buf w.result) line w.ensures.0
 
-pub returns-in-Accepted : goal.returns-in-Accepted
-returns-in-Accepted c =
+pub returns-in-Ok : goal.returns-in-Ok
+returns-in-Ok c =
     let at-write = c.before.before.before in
     let at_fields = at-write.before.before.before in
     let a = (start at_fields.before).args in

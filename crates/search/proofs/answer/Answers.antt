@@ -26,7 +26,7 @@ lent c = lent_bytes (start c).args.sheet.now c.shared_slice_known-1.given
 
 clash : (c : lts.Past-After-enum_told2 tie.the-claims reads.Pre reads.Post)
     → Decides (searching (start c).args.sheet.now (length {A = ℕ} (replicate 54 0))) (replicate 54 0) (verdict true) c.search.new.buf
-clash c = let call = c.search.ensures in (sym (ap searched c.in-Solution.is) ∙ call.0, call.1)
+clash c = let call = c.search.ensures in (sym (ap searched c.in-Ok-Solution.is) ∙ call.0, call.1)
 
 known : (c : lts.Past-After-enum_told2 tie.the-claims reads.Pre reads.Post) → Admitted (start c).args.sheet.now
 known c =
@@ -54,16 +54,16 @@ write-requires c =
     let b = (start at_fields.before).args.sheet.now in
     (rw at_fields.fields-size.ensures (clash_checks b (replicate 54 0) _ (clash at_fields.before) (lent at_fields.before)), omega (arith, (start at_fields.before).requires))
 
-pub returns-in-Refused : goal.returns-in-Refused
-returns-in-Refused c =
-    let told = ap refused c.number.ensures ∙ sym (ap searched c.in-Refused.is) ∙ c.search.ensures.0 in
+pub returns-in-Err : goal.returns-in-Err
+returns-in-Err c =
+    let told = ap refused c.from.ensures ∙ sym (ap searched c.in-Err.is) ∙ c.search.ensures.0 in
     rw (prints_refused c.args.sheet.now told) c.refusal.ensures.0
 
-pub returns-in-Unsatisfiable : goal.returns-in-Unsatisfiable
-returns-in-Unsatisfiable c = rw (prints_apart c.args.sheet.now (sym (ap searched c.in-Unsatisfiable.is) ∙ c.search.ensures.0)) c.put.ensures
+pub returns-in-Ok-Unsatisfiable : goal.returns-in-Ok-Unsatisfiable
+returns-in-Ok-Unsatisfiable c = rw (prints_apart c.args.sheet.now (sym (ap searched c.in-Ok-Unsatisfiable.is) ∙ c.search.ensures.0)) c.put.ensures
 
-pub returns-in-Solution : goal.returns-in-Solution
-returns-in-Solution c =
+pub returns-in-Ok-Solution : goal.returns-in-Ok-Solution
+returns-in-Ok-Solution c =
     let at-write = c.before.before.before in
     let at_fields = at-write.before.before.before in
     let b = (start at_fields.before).args.sheet.now in
