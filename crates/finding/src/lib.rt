@@ -100,11 +100,8 @@ fn past_fields(sheet: &[u8], n: usize) -> Result<ClauseId, usize>
     requires { Admitted sheet.now }
     ensures { Sought (sheet_of sheet.now) (k_clauses (sheet_of sheet.now)) (s_clauses (sheet_of sheet.now) + total (length (sheet_of sheet.now).constraints) (constraint_count (sheet_of sheet.now))) n result }
 {
-    in_section(sheet, Section::Equations, n).or_else(|rest| in_section(
-        sheet,
-        Section::Constraints,
-        rest,
-    ))
+    let found = in_section(sheet, Section::Equations, n);
+    found.or_else(|rest| in_section(sheet, Section::Constraints, rest))
 }
 
 // The same of all clauses.
