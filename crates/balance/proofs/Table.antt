@@ -5,12 +5,12 @@ use mathlib.Core.Bool.{Bool, true, false}
 use mathlib.Core.List.{List}
 use Prim.Native.Nat.{ℕ, ◌+◌, ◌-◌, ◌*◌, ◌/◌, ◌%◌, ◌<◌, ◌≤◌}
 use native.Mathlib.Omega.{arith}
-use lib.Dec.{eqb}
 use lib.ListN.{length, get_or}
 use borrow.Author.Tests.{lt-ltb, le-ltb}
 use Rattle.model.specs.Sheet.{Sheet}
 use Rattle.model.specs.Range.{InRange}
-use Rattle.model.proofs.Lists.{by_test}
+use Rattle.balance.specs.declared.Way.{Way}
+use Rattle.balance.specs.declared.Way.TheVariants.{Standing, Turned, Out}
 use Rattle.balance.specs.Balance.{occurs, chosen, turned_way, turned_ways, joined, Surplus, symbol_at, Sized, Tabulated, taken_so, taken_surplus, joined_surplus, Fair, Unfair, Unsolvable}
 use Rattle.balance.proofs.Joined.{joined-none, joined-more, none-there, lopsided_apart, unpaired_apart}
 
@@ -19,15 +19,15 @@ pub even_there : (s : Sheet) (p x : ℕ) → length s.equations ≤ p → Surplu
 even_there s p x h = rw (none-there s p h) (refl, omega arith)
 
 -- the surplus of an equation taken so is that of its first side over its second
-taken_surplus_lem : (s : Sheet) (x p n way : ℕ) → Surplus s p x n → taken_so n way + occurs x (chosen s p (turned_way way)) ≡ 12 + occurs x (chosen s p way)
-taken_surplus_lem s x p n way h = by_test (eqb way 0)
-    (λ e. rw e h.0)
-    (λ e. by_test (eqb way 1) (λ k. rw (e, k) (omega (arith, h))) (λ k. rw (e, k, e, k) refl))
+taken_surplus_lem : (s : Sheet) (x p n : ℕ) (way : Way) → Surplus s p x n → taken_so n way + occurs x (chosen s p (turned_way way)) ≡ 12 + occurs x (chosen s p way)
+taken_surplus_lem s x p n Standing h = h.0
+taken_surplus_lem s x p n Turned h = omega (arith, h)
+taken_surplus_lem s x p n Out h = refl
 
 -- symbols counted in four equations
-four_joined : (s : Sheet) (ways : List ℕ) (x : ℕ)
+four_joined : (s : Sheet) (ways : List Way) (x : ℕ)
     → occurs x (joined s ways)
-    ≡ occurs x (chosen s 0 (get_or ways 0 0)) + occurs x (chosen s 1 (get_or ways 1 0)) + occurs x (chosen s 2 (get_or ways 2 0)) + occurs x (chosen s 3 (get_or ways 3 0))
+    ≡ occurs x (chosen s 0 (get_or ways 0 Standing)) + occurs x (chosen s 1 (get_or ways 1 Standing)) + occurs x (chosen s 2 (get_or ways 2 Standing)) + occurs x (chosen s 3 (get_or ways 3 Standing))
 four_joined s ways x =
     let n = joined-none s ways x in
     let a = joined-more s ways x 0 in
@@ -41,14 +41,14 @@ pub sized : (s : Sheet) (t : List ℕ) → Tabulated s t → Sized t
 sized s t right = (right.0, (λ i h. (right.1 i h).1))
 
 -- The sum of four entries is the surplus of the first sides over the second, put one after another.
-module _ (s : Sheet) (t ways : List ℕ) (right : Tabulated s t) (k : ℕ) (less : k < 14) where
+module _ (s : Sheet) (t : List ℕ) (ways : List Way) (right : Tabulated s t) (k : ℕ) (less : k < 14) where
   entry : (p : ℕ) → p < 4
-      → taken_surplus t ways p k + occurs (symbol_at k) (chosen s p (turned_way (get_or ways p 0))) ≡ 12 + occurs (symbol_at k) (chosen s p (get_or ways p 0))
+      → taken_surplus t ways p k + occurs (symbol_at k) (chosen s p (turned_way (get_or ways p Standing))) ≡ 12 + occurs (symbol_at k) (chosen s p (get_or ways p Standing))
   entry p h =
       let row : (14 * p + k) / 14 ≡ p = omega arith in
       let column : (14 * p + k) % 14 ≡ k = omega arith in
       let here = right.1 (14 * p + k) (omega arith) in
-      taken_surplus_lem s (symbol_at k) p (get_or t (14 * p + k) 0) (get_or ways p 0) (rw (row, column) at here)
+      taken_surplus_lem s (symbol_at k) p (get_or t (14 * p + k) 0) (get_or ways p Standing) (rw (row, column) at here)
 
   joined-right : joined_surplus t ways k + occurs (symbol_at k) (joined s (turned_ways ways)) ≡ 48 + occurs (symbol_at k) (joined s ways)
   joined-right =
@@ -61,7 +61,7 @@ module _ (s : Sheet) (t ways : List ℕ) (right : Tabulated s t) (k : ℕ) (less
       omega arith
 
 -- the same by a symbol's byte
-module _ (s : Sheet) (ok : InRange s) (t ways : List ℕ) (right : Tabulated s t) where
+module _ (s : Sheet) (ok : InRange s) (t : List ℕ) (ways : List Way) (right : Tabulated s t) where
   field-right : (x : ℕ) → 128 ≤ x → x < 128 + length s.limits
       → joined_surplus t ways (x - 120) + occurs x (joined s (turned_ways ways)) ≡ 48 + occurs x (joined s ways)
   field-right x low high =

@@ -20,10 +20,7 @@ fn numbered_after(n: u8, x: u8) -> u8
     requires { x + n < 256 }
     ensures { result ≡ numbered n x }
 {
-    if x < FIRST_FIELD {
-        return x;
-    }
-    x + n
+    if x < FIRST_FIELD { x } else { x + n }
 }
 
 // Symbols with their fields numbered after n others, at an offset. Returns the offset past them.
@@ -31,12 +28,10 @@ fn put_numbered(buf: &mut [u8], at: usize, n: u8, symbols: &[u8]) -> usize
     requires { (n ≤ 3) × All (λ x. x < 128 + 3) symbols.now × (at + length symbols.now ≤ length buf.old) }
     ensures { Puts buf.old at (map (numbered n) symbols.now) buf.new result }
 {
-    let mut i: usize = 0;
-    while i < symbols.len() {
-        buf[at + i] = numbered_after(n, symbols[i]);
-        i += 1;
+    for (i, &x) in symbols.iter().enumerate() {
+        buf[at + i] = numbered_after(n, x);
     }
-    at + i
+    at + symbols.len()
 }
 
 // The header, the letters and the limits. Returns the offset past them.

@@ -8,5 +8,5 @@ ghost use Rattle.std.specs.Prelude.{◌≡◌, ◌<◌, pos, neg_ℤ};
 pub fn minus(number: u8) -> i64
     ensures { (result ≡ neg_ℤ (pos number)) × (number < 256) }
 {
-    0 - (number as i64)
+    -i64::from(number)
 }

@@ -7,6 +7,7 @@ ghost use Rattle.calls.specs.Calls.{reading, checking, spelling};
 ghost use Rattle.c_answer.specs.Returned.{returned, lent_after, Handed, Explained};
 
 use c_answer::minus;
+use judge::Judgement;
 
 // The answers of checking, and the causes why a filling does not clash.
 const CLASH: i64 = 1;
@@ -22,15 +23,15 @@ pub fn read(sheet: &[u8], counts: &mut [u64; 4]) -> i64
     ensures { (result ≡ returned (reading sheet.now)) × (counts.new ≡ lent_after (reading sheet.now) counts.old) }
 {
     match sheet::read(sheet) {
-        sheet::Reading::Refused(refusal) => minus(sheet::number(refusal)),
-        sheet::Reading::Accepted(found) => {
-            let letters = found.letters as u64;
-            let fields = found.fields as u64;
-            let equations = found.equations as u64;
-            let constraints = found.constraints as u64;
+        Ok(found) => {
+            let letters = u64::from(found.letters);
+            let fields = u64::from(found.fields);
+            let equations = u64::from(found.equations);
+            let constraints = u64::from(found.constraints);
             *counts = [letters, fields, equations, constraints];
             0
         }
+        Err(first) => minus(u8::from(first)),
     }
 }
 
@@ -40,8 +41,8 @@ pub fn check(sheet: &[u8], filling: &[u8], why: &mut [u64; 5]) -> i64
     ensures { Explained (checking sheet.now filling.now) why.old result why.new }
 {
     match substitution::check(sheet, filling) {
-        substitution::Checking::Solves => CLASH,
-        substitution::Checking::Differs(equation, found) => {
+        Ok(Judgement::Solution) => CLASH,
+        Ok(Judgement::Differs(equation, found)) => {
             let pair = equation as u64;
             let agreeing = found.agreeing as u64;
             let side = found.side as u64;
@@ -49,12 +50,12 @@ pub fn check(sheet: &[u8], filling: &[u8], why: &mut [u64; 5]) -> i64
             *why = [PAIR_DIFFERS, pair, agreeing, side, rest];
             DOES_NOT_CLASH
         }
-        substitution::Checking::Breaks(constraint) => {
+        Ok(Judgement::Breaks(constraint)) => {
             let rule = constraint as u64;
             *why = [RULE_BROKEN, rule, 0, 0, 0];
             DOES_NOT_CLASH
         }
-        substitution::Checking::Refused(refusal) => minus(substitution::number(refusal)),
+        Err(refusal) => minus(u8::from(refusal)),
     }
 }
 
@@ -63,7 +64,7 @@ pub fn spell(sheet: &[u8], pair: u64, side: u64, filling: &[u8], text: &mut [u8]
     ensures { Handed (spelling sheet.now pair side filling.now (length text.old)) text.old result text.new }
 {
     match substitution::spell(sheet, pair as usize, side as usize, filling, text) {
-        substitution::Spelling::Length(n) => n as i64,
-        substitution::Spelling::Refused(refusal) => minus(substitution::number(refusal)),
+        Ok(n) => n as i64,
+        Err(refusal) => minus(u8::from(refusal)),
     }
 }

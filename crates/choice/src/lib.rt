@@ -1,295 +1,198 @@
 // Which field parts a box of lengths. It is one whose length is open; that is all that is promised. Which one decides how fast the search is: best is a field
-// at which the equation that failed last stands, or else one whose open fields are used the fewest times; then one at which many walks stand.
+// at which the equation that failed last stands, or else one whose open fields are used the fewest times; then one at which many walks stand. It is made
+// without `bounds`, so a box comes as lo and hi.
 #![tactic(auto)]
 
-ghost use Rattle.std.specs.Prelude.{ℕ, ◌+◌, ◌<◌, ◌≤◌, get_or};
-ghost use Rattle.choice.specs.Chosen.{Chosen};
+ghost use Rattle.std.specs.Prelude.{ℕ, ◌<◌, ◌≤◌, get_or, IfSome};
+ghost use Rattle.choice.specs.Chosen.{Chosen, Open};
 
 use fields::{FIELDS, Lengths};
-use scan::wide;
 use trails::Board;
 
-// How often equation q has field f, at 6 × q + f.
-pub type Uses = [u8; 24];
+// How many equations there can be, and above how many points no more are added.
+const EQUATIONS: usize = 4;
 
-// What speaks for each field: how often walks stand at it, and whether it is near: an equation of the least distance stands at it. Index 6 is for no field.
+const ENOUGH: u8 = 200;
+
+// How often each equation has each field.
+pub type Uses = [[u8; FIELDS]; EQUATIONS];
+
+// What speaks for each field: how often walks stand at it, and whether it is near: an equation of the least distance stands at it.
 #[derive(Clone, Copy)]
 struct Choice {
     fewest: usize,
-    near: [bool; 7],
-    score: [u8; 7],
+    near: [bool; FIELDS],
+    score: [u8; FIELDS],
 }
 
 // A small number more, as long as there is room.
 fn added(n: u8, points: u8) -> u8
     requires { points < 8 }
 {
-    if n < 200 {
-        return n + points;
-    }
-    n
+    if n < ENOUGH { n + points } else { n }
 }
 
-// How often the cells from o to e are the byte b.
-fn used(x: &[u8], o: usize, e: usize, b: u8) -> u8
-    requires { o ≤ e }
-{
-    let mut n: u8 = 0;
-    let mut i = o;
-    while i < e {
-        if x.len() <= i {
-            return n;
-        }
+// How often the cells from o to e are the byte b, as far as it bears on the choice: a `count` would not stop at ENOUGH.
+fn used(x: &[u8], o: usize, e: usize, b: u8) -> u8 {
+    let mut n = 0;
+    for i in o..e.min(x.len()) {
         if x[i] == b {
             n = added(n, 1);
         }
-        i += 1;
     }
     n
 }
 
 // The uses of the equations whose cells are in x, and whose widths are in w.
 pub fn uses(x: &[u8], w: &[u8]) -> Uses {
-    let mut uses: Uses = [0; 24];
-    let mut o: usize = 0;
-    let mut q: usize = 0;
-    while q < 7 {
-        if w.len() <= q + 1 {
-            return uses;
+    let mut uses = [[0; FIELDS]; EQUATIONS];
+    let mut o = 0;
+    // widths by index: there may be more than those of four equations
+    for q in 0..EQUATIONS.min(w.len() / 2) {
+        let e = o + usize::from(w[2 * q]) + usize::from(w[2 * q + 1]);
+        for f in 0..FIELDS {
+            uses[q][f] = used(x, o, e, 8 * (f as u8) + 8);
         }
-        let e = o + wide(w[q]) + wide(w[q + 1]);
-        let at = 3 * q;
-        uses[at] = used(x, o, e, 8);
-        uses[at + 1] = used(x, o, e, 16);
-        uses[at + 2] = used(x, o, e, 24);
-        uses[at + 3] = used(x, o, e, 32);
-        uses[at + 4] = used(x, o, e, 40);
-        uses[at + 5] = used(x, o, e, 48);
         o = e;
-        q += 2;
     }
     uses
 }
 
-// The field of cell i of a side that starts at o and has n cells, if it is open whether there is such a place; else 6.
-fn held(x: &[u8], o: usize, i: u8, n: u8, lo: Lengths, hi: Lengths) -> usize
+// The field of cell i of a side that starts at o and has n cells, if it is open whether there is such a place.
+fn held(x: &[u8], o: usize, i: u8, n: u8, lo: Lengths, hi: Lengths) -> Option<usize>
     requires { o < 4096 }
-    ensures { result ≤ 6 }
+    ensures { IfSome result (λ f. f < 6) }
 {
     if n <= i {
-        return FIELDS;
+        return None;
     }
-    let at = o + wide(i);
-    if x.len() <= at {
-        return FIELDS;
-    }
-    let f = wide(x[at]) / 8;
-    let c = wide(x[at]) % 8;
-    if f == 0 {
-        return FIELDS;
-    }
-    let g = f - 1;
-    if FIELDS <= g {
-        return FIELDS;
-    }
-    if c < wide(lo[g]) {
-        return FIELDS;
-    }
-    if c < wide(hi[g]) {
-        return g;
-    }
-    FIELDS
-}
-
-// The uses of one field, if its length is open.
-fn open(n: u8, lo: u8, hi: u8) -> usize
-    ensures { result < 256 }
-{
-    if lo < hi {
-        return wide(n);
-    }
-    0
-}
-
-// The uses of open fields, from a place of the table on.
-fn open_uses(n: Uses, at: usize, lo: Lengths, hi: Lengths) -> usize
-    requires { at ≤ 18 }
-{
-    open(n[at], lo[0], hi[0])
-        + open(n[at + 1], lo[1], hi[1])
-        + open(n[at + 2], lo[2], hi[2])
-        + open(n[at + 3], lo[3], hi[3])
-        + open(n[at + 4], lo[4], hi[4])
-        + open(n[at + 5], lo[5], hi[5])
-}
-
-// Which fields are near still, where an equation of distance n comes.
-fn still_near(c: Choice, n: usize) -> [bool; 7] {
-    if n < c.fewest {
-        return [false; 7];
-    }
-    c.near
-}
-
-// An equation of distance n stands at the fields f and h.
-fn marked(c: Choice, f: usize, h: usize, n: usize, points: u8) -> Choice
-    requires { (f ≤ 6) × (h ≤ 6) × (points < 8) }
-{
-    let mut score = c.score;
-    let one = added(score[f], points);
-    score[f] = one;
-    let two = added(score[h], points);
-    score[h] = two;
-    let fewest = c.fewest;
-    if fewest < n {
-        let before = c.near;
-        return Choice {
-            fewest: fewest,
-            near: before,
-            score: score,
-        };
-    }
-    let mut near = still_near(c, n);
-    near[f] = true;
-    near[h] = true;
-    Choice {
-        fewest: n,
-        near: near,
-        score: score,
+    let cell = *x.get(o + usize::from(i))?;
+    let f = usize::from(cell / 8).checked_sub(1)?;
+    if f < FIELDS && (lo[f]..hi[f]).contains(&(cell % 8)) {
+        Some(f)
+    } else {
+        None
     }
 }
 
-// The same, if it stands at an open field at all; where it stands at one alone, that counts for more.
-fn noted(c: Choice, f: usize, h: usize, n: usize) -> Choice
-    requires { (f ≤ 6) × (h ≤ 6) }
-{
-    if f < FIELDS {
-        if h < FIELDS {
-            return marked(c, f, h, n, 2);
+// The distance of an equation: how often it uses open fields.
+fn open_uses(uses: [u8; FIELDS], lo: Lengths, hi: Lengths) -> usize {
+    let mut sum = 0;
+    for f in 0..FIELDS {
+        if lo[f] < hi[f] {
+            sum += usize::from(uses[f]);
         }
-        return marked(c, f, FIELDS, n, 3);
     }
-    if h < FIELDS {
-        return marked(c, FIELDS, h, n, 3);
-    }
-    c
+    sum
 }
 
-// The distance of equation q: the uses of its open fields, or 0 for the one that failed last.
-fn distance(n: Uses, q: usize, last: u8, lo: Lengths, hi: Lengths) -> usize
-    requires { q < 4 }
-{
-    if q == wide(last) {
-        return 0;
-    }
-    open_uses(n, 6 * q, lo, hi)
-}
-
-// What a trail, which stands at these cells, says.
-fn rate(
-    x: &[u8],
-    w: &[u8],
-    uses: Uses,
-    at: [u8; 8],
-    lo: Lengths,
-    hi: Lengths,
-    last: u8,
-    c: Choice,
-) -> Choice {
-    let mut r = c;
-    let mut o: usize = 0;
-    let mut q: usize = 0;
-    while q < 7 {
-        if w.len() <= q + 1 {
-            return r;
+impl Choice {
+    // Whether an equation of distance n is as near as any before it. Where it is nearer, no field is near any more.
+    fn approach(&mut self, n: usize) -> bool {
+        if n < self.fewest {
+            self.fewest = n;
+            self.near = [false; FIELDS];
         }
-        let m = o + wide(w[q]);
-        let e = m + wide(w[q + 1]);
-        let f = held(x, o, at[q], w[q], lo, hi);
-        let h = held(x, m, at[q + 1], w[q + 1], lo, hi);
-        r = noted(r, f, h, distance(uses, q / 2, last, lo, hi));
-        o = e;
-        q += 2;
+        n == self.fewest
     }
-    r
-}
 
-// How much speaks for a field: nothing, where no walk stands at it or its length is not open.
-fn worth(near: bool, score: u8, lo: u8, hi: u8) -> usize {
-    if score == 0 {
-        return 0;
-    }
-    if hi <= lo {
-        return 0;
-    }
-    let points = 16 * wide(score) + 256 - wide(hi - lo);
-    if near {
-        return points + 1000;
-    }
-    points
-}
-
-// The field for which most speaks, or 6.
-fn best_field(c: Choice, lo: Lengths, hi: Lengths) -> usize {
-    let near = c.near;
-    let score = c.score;
-    let mut best = FIELDS;
-    let mut top: usize = 0;
-    let mut f: usize = 0;
-    while f < FIELDS {
-        let points = worth(near[f], score[f], lo[f], hi[f]);
-        if top < points {
-            top = points;
-            best = f;
+    // An equation, near or not, stands at field f.
+    fn mark(&mut self, f: usize, near: bool, points: u8)
+        requires { (f < 6) × (points < 8) }
+    {
+        self.score[f] = added(self.score[f], points);
+        if near {
+            self.near[f] = true;
         }
-        f += 1;
     }
-    best
+
+    // An equation of distance n stands at these fields, where they are open. Where it stands at one alone, that counts for more.
+    fn note(&mut self, left: Option<usize>, right: Option<usize>, n: usize)
+        requires { IfSome left (λ f. f < 6) × IfSome right (λ f. f < 6) }
+    {
+        match (left, right) {
+            (Some(f), Some(h)) => {
+                let near = self.approach(n);
+                self.mark(f, near, 2);
+                self.mark(h, near, 2);
+            }
+            (Some(f), None) | (None, Some(f)) => {
+                let near = self.approach(n);
+                self.mark(f, near, 3);
+            }
+            (None, None) => {}
+        }
+    }
+
+    // What a trail, which stands at these cells, says. The equation that failed last has no distance.
+    fn rate(
+        &mut self,
+        x: &[u8],
+        w: &[u8],
+        uses: Uses,
+        at: [u8; 8],
+        lo: Lengths,
+        hi: Lengths,
+        last: u8,
+    ) {
+        let mut o = 0;
+        for q in 0..EQUATIONS.min(w.len() / 2) {
+            let m = o + usize::from(w[2 * q]);
+            let left = held(x, o, at[2 * q], w[2 * q], lo, hi);
+            let right = held(x, m, at[2 * q + 1], w[2 * q + 1], lo, hi);
+            let distance = if q == usize::from(last) {
+                0
+            } else {
+                open_uses(uses[q], lo, hi)
+            };
+            self.note(left, right, distance);
+            o = m + usize::from(w[2 * q + 1]);
+        }
+    }
+
+    // How much speaks for field f: nothing, where no walk stands at it or its length is not open.
+    fn worth(self, f: usize, lo: u8, hi: u8) -> usize
+        requires { f < 6 }
+        ensures { hi ≤ lo → result ≤ 0 }
+    {
+        if self.score[f] == 0 || hi <= lo {
+            return 0;
+        }
+        let points = 16 * usize::from(self.score[f]) + 256 - usize::from(hi - lo);
+        if self.near[f] { points + 1000 } else { points }
+    }
+
+    // The field for which most speaks.
+    fn best(self, lo: Lengths, hi: Lengths) -> Option<usize>
+        ensures { IfSome result (Open lo hi) }
+    {
+        let mut best = None;
+        let mut top = 0;
+        for f in 0..FIELDS {
+            let points = self.worth(f, lo[f], hi[f]);
+            if top < points {
+                top = points;
+                best = Some(f);
+            }
+        }
+        best
+    }
 }
 
-// The first field with an open length, or 6.
-fn open_field(lo: Lengths, hi: Lengths) -> usize
+// The first field with an open length.
+fn open_field(lo: Lengths, hi: Lengths) -> Option<usize>
     requires { (f : ℕ) → f < 6 → get_or lo f 0 ≤ get_or hi f 0 }
     ensures { Chosen lo hi result }
 {
-    let mut f: usize = 0;
-    while f < FIELDS {
+    for f in 0..FIELDS {
         if lo[f] < hi[f] {
-            return f;
+            return Some(f);
         }
-        f += 1;
     }
-    f
+    None
 }
 
-// Field f, if its length is open; else another one.
-fn or_open(f: usize, lo: Lengths, hi: Lengths) -> usize
-    requires { (f : ℕ) → f < 6 → get_or lo f 0 ≤ get_or hi f 0 }
-    ensures { Chosen lo hi result }
-{
-    if f < FIELDS {
-        if lo[f] < hi[f] {
-            return f;
-        }
-        return open_field(lo, hi);
-    }
-    open_field(lo, hi)
-}
-
-// The equation that failed, where the board is not ok; else that which failed before.
-pub fn failed(b: Board, last: u8) -> u8 {
-    if b.ok {
-        return last;
-    }
-    let t = b.ahead;
-    if !t.ok {
-        return t.last;
-    }
-    let u = b.behind;
-    u.last
-}
-
-// The field that parts the box from lo to hi, whose walks stand where the board tells; 6 where all lengths are settled. x has the cells of the equations, y
+// The field that parts the box from lo to hi, whose walks stand where the board tells; None where all lengths are settled. x has the cells of the equations, y
 // those of the equations reversed, w their widths, and `last` is the equation that failed last.
 pub fn choose(
     x: &[u8],
@@ -300,21 +203,19 @@ pub fn choose(
     lo: Lengths,
     hi: Lengths,
     last: u8,
-) -> usize
+) -> Option<usize>
     requires { (f : ℕ) → f < 6 → get_or lo f 0 ≤ get_or hi f 0 }
     ensures { Chosen lo hi result }
 {
-    let t = b.ahead;
-    let u = b.behind;
-    let there = t.at;
-    let back = u.at;
-    let none = Choice {
+    let mut choice = Choice {
         fewest: 4096,
-        near: [true; 7],
-        score: [0; 7],
+        near: [true; FIELDS],
+        score: [0; FIELDS],
     };
-    let one = rate(x, w, uses, there, lo, hi, last, none);
-    let both = rate(y, w, uses, back, lo, hi, last, one);
-    let f = best_field(both, lo, hi);
-    or_open(f, lo, hi)
+    choice.rate(x, w, uses, b.ahead.at, lo, hi, last);
+    choice.rate(y, w, uses, b.behind.at, lo, hi, last);
+    match choice.best(lo, hi) {
+        Some(f) => Some(f),
+        None => open_field(lo, hi),
+    }
 }

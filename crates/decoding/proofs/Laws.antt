@@ -12,18 +12,18 @@ use Rattle.calls.specs.Calls.{refused, formed, decoding}
 use Rattle.model.proofs.Seams.{take-replicate}
 use Rattle.calls.proofs.Decoded.{decoding_alike}
 use Rattle.listing.specs.declared.Fault.{Fault}
-use Rattle.listing.specs.declared.Listing.TheVariants.{Listed, Refused}
+use Rattle.std.specs.Prelude.{Ok, Err}
 use Rattle.listing.specs.Answer.{number_of, Form}
 
 -- the text with marks for 0 and the variables of a sheet
 module _ (s : Sheet) (n : ℕ) (t m : List ℕ) (all : n ≡ suc (length (variables s))) where
   -- a text that is refused, and one that goes on to what its marks say
-  pub text-refused : (f : Fault) → Form n t (Refused f) m → formed (length (variables s)) t (decoding s (assigned t)) ≡ refused (number_of f)
+  pub text-refused : (f : Fault) → Form n t (Err f) m → formed (length (variables s)) t (decoding s (assigned t)) ≡ refused (number_of f)
   text-refused f h =
       let e : length (variables s) ≡ n - 1 = omega arith in
       ap (λ k. formed k t (decoding s (assigned t))) e ∙ h (decoding s (assigned t))
 
-  pub text-listed : Form n t Listed m → formed (length (variables s)) t (decoding s (assigned t)) ≡ decoding s (truth m)
+  pub text-listed : Form n t (Ok tt) m → formed (length (variables s)) t (decoding s (assigned t)) ≡ decoding s (truth m)
   text-listed h =
       let e : length (variables s) ≡ n - 1 = omega arith in
       ap (λ k. formed k t (decoding s (assigned t))) e

@@ -13,7 +13,7 @@ fn figure(buf: &mut [u8], at: usize, n: usize) -> usize
     requires { (n < 10) × (at < length buf.old) }
     ensures { Puts buf.old at ((48 + n) ∷ []) buf.new result }
 {
-    buf[at] = 48 + n as u8;
+    buf[at] = b'0' + n as u8;
     at + 1
 }
 
@@ -49,7 +49,7 @@ pub fn print(buf: &mut [u8], at: usize, n: usize) -> usize
         return few_figures(buf, at, n);
     }
     let next = print(buf, at, n / 10);
-    buf[next] = 48 + (n % 10) as u8;
+    buf[next] = b'0' + (n % 10) as u8;
     next + 1
 }
 
@@ -61,11 +61,11 @@ fn put_literal(buf: &mut [u8], at: usize, code: usize) -> usize
     if code == 0 {
         return at;
     }
-    if code % 2 == 0 {
-        let end = print(buf, at, code / 2);
-        return put(buf, end, b" ");
-    }
-    let next = put(buf, at, b"-");
+    let next = if code % 2 == 0 {
+        at
+    } else {
+        put(buf, at, b"-")
+    };
     let end = print(buf, next, code / 2);
     put(buf, end, b" ")
 }
@@ -76,10 +76,8 @@ fn put_literals(buf: &mut [u8], at: usize, codes: &[usize]) -> usize
     ensures { Puts buf.old at (each codes.now code_bytes) buf.new result }
 {
     let mut past = at;
-    let mut i: usize = 0;
-    while i < codes.len() {
-        past = put_literal(buf, past, codes[i]);
-        i += 1;
+    for &code in codes {
+        past = put_literal(buf, past, code);
     }
     past
 }

@@ -20,7 +20,7 @@ use Rattle.model.proofs.Lists.{by_test, at, each_append}
 use Rattle.model.proofs.Rests.{found}
 use Rattle.model.proofs.Known.{accepted_in_range}
 use Rattle.model.proofs.Places.{holds_at_lem, holds_next}
-use Rattle.model.proofs.Seams.{store_next, length_seam, length_snoc, lend_tail}
+use Rattle.model.proofs.Seams.{length_snoc, lend_tail}
 use Rattle.model.proofs.Fillings.{filling_exact, filling-sized, text-short, text-there}
 use Rattle.fields.specs.declared.Field.{Field}
 use Rattle.fields.specs.Memory.{text_of, texts_of, field, Whole, meaning, Held, firsts, field_bytes, field_at, loaded}
@@ -44,20 +44,6 @@ unfolding memory_bytes
 length_memory zero g = refl
 length_memory (suc n) g = let a = length-field (field g n) in let b = length_memory n g in simp length-append (omega arith)
 
-pub firsts_more : (n : ℕ) (xs : List ℕ) → firsts (n + 1) xs ≡ firsts n xs ++ (get_or xs n 0 ∷ [])
-unfolding firsts
-firsts_more n xs = rw add-one
-
--- `store_field`: a length and k letters stand at the front of d, and one letter more is stored
-length_front : (a k : ℕ) (l : List ℕ) → length (a ∷ firsts k l) ≡ k + 1
-length_front a k l = ap suc (length-firsts k l) ∙ omega arith
-
-pub letters-length : (a k : ℕ) (d l : List ℕ) → k < length d → length ((a ∷ firsts k l) ++ drop (k + 1) d) ≡ length d
-letters-length a k d l h = length_seam (a ∷ firsts k l) d (k + 1) (length_front a k l) (omega arith)
-
-pub letter_turn : (a k : ℕ) (d l : List ℕ) → k + 1 < length d → set ((a ∷ firsts k l) ++ drop (k + 1) d) (k + 1) (get_or l k 0) ≡ (a ∷ firsts (k + 1) l) ++ drop (k + 1 + 1) d
-letter_turn a k d l h = rw firsts_more (store_next (a ∷ firsts k l) d (k + 1) (get_or l k 0) (length_front a k l) h)
-
 memory_more : (n : ℕ) (g : List Field) → memory_bytes (n + 1) g ≡ memory_bytes n g ++ field_bytes (field g n)
 unfolding memory_bytes
 memory_more n g = rw add-one
@@ -72,13 +58,18 @@ store_turn d g buf ys f e h =
 
 -- What `load` makes of bytes, field by field.
 
-firsts-take : (n : ℕ) (xs : List ℕ) → n ≤ length xs → firsts n xs ≡ take n xs
+pub firsts-take : (n : ℕ) (xs : List ℕ) → n ≤ length xs → firsts n xs ≡ take n xs
 unfolding firsts
 firsts-take zero xs h = refl
 firsts-take (suc n) xs h = rw (firsts-take n xs (omega arith)) (sym (take-suc xs n 0 h))
 
 firsts-all : (n : ℕ) (xs : List ℕ) → length xs ≡ n → firsts n xs ≡ xs
 firsts-all n xs e = firsts-take n xs (omega arith) ∙ take_all n xs (omega arith)
+
+-- `store_field`: a length and eight letters come to the front
+pub store_front : (b l : List ℕ) (n : ℕ) → 9 ≤ length b → length l ≡ length (take 8 (drop 1 (set b 0 n))) → put_mid 1 8 (set b 0 n) l ≡ (n ∷ firsts 8 l) ++ drop 9 b
+store_front [] l n h e = absurd (omega arith)
+store_front (x ∷ b) l n h e = rw (firsts-all 8 l (e ∙ length-take-le 8 b (omega arith)))
 
 length-loaded : (n : ℕ) (b : List ℕ) → length (loaded n b) ≡ 6
 unfolding loaded

@@ -8,8 +8,6 @@ ghost use Rattle.model.specs.Filling.{a_text, filling, encode_filling};
 ghost use Rattle.fields.specs.Memory.{texts_of, Whole, meaning, Held, field_bytes, field_at, loaded};
 ghost use Rattle.fields.specs.Answer.{number_of, left, IsAdmitted};
 
-use scan::wide;
-
 // The most fields, a field's places, its bytes in a filling, and what a place past the length holds.
 pub const FIELDS: usize = 6;
 
@@ -41,7 +39,7 @@ pub const EMPTY: Field = Field {
 pub type Lengths = [u8; FIELDS];
 
 // What a filling's bytes are refused for, by document 01's numbers 20 to 23.
-#[derive(Clone, Copy)]
+#[derive(Clone, Copy, Debug, PartialEq, Eq)]
 pub enum Fault {
     Size,
     Length,
@@ -49,22 +47,17 @@ pub enum Fault {
     Past,
 }
 
-// Whether bytes are IsAdmitted, those of a field or of a filling.
-#[derive(Clone, Copy)]
-pub enum Admission {
-    Admitted,
-    Refused(Fault),
-}
-
 // Document 01's number of a fault.
-pub fn number(fault: Fault) -> u8
-    ensures { result ≡ number_of fault }
-{
-    match fault {
-        Fault::Size => 20,
-        Fault::Length => 21,
-        Fault::Letter => 22,
-        Fault::Past => 23,
+impl From<Fault> for u8 {
+    ghost from_gives = { λ e r. r ≡ number_of e };
+
+    fn from(fault: Fault) -> u8 {
+        match fault {
+            Fault::Size => 20,
+            Fault::Length => 21,
+            Fault::Letter => 22,
+            Fault::Past => 23,
+        }
     }
 }
 
@@ -74,14 +67,9 @@ fn load_field(bytes: &[u8], at: usize) -> Field
     ensures { result ≡ field_at bytes.now at }
 {
     let mut letters = [PAST; PLACES];
-    let from = at + 1;
-    let mut c: usize = 0;
-    while c < PLACES {
-        letters[c] = bytes[from + c];
-        c += 1;
-    }
+    letters.copy_from_slice(&bytes[at + 1..at + FIELD_BYTES]);
     Field {
-        letters: letters,
+        letters,
         len: bytes[at],
     }
 }
@@ -92,11 +80,8 @@ fn load_fields(bytes: &[u8], n: usize) -> Substitution
     ensures { result ≡ loaded n bytes.now }
 {
     let mut g = [EMPTY; FIELDS];
-    let mut f: usize = 0;
-    while f < n {
-        let field = load_field(bytes, FIELD_BYTES * f);
-        g[f] = field;
-        f += 1;
+    for f in 0..n {
+        g[f] = load_field(bytes, FIELD_BYTES * f);
     }
     g
 }
@@ -106,13 +91,8 @@ fn store_field(buf: &mut [u8], field: Field)
     requires { 9 ≤ length buf.old }
     ensures { buf.new ≡ field_bytes field ++ drop 9 buf.old }
 {
-    let letters = field.letters;
     buf[0] = field.len;
-    let mut c: usize = 0;
-    while c < PLACES {
-        buf[c + 1] = letters[c];
-        c += 1;
-    }
+    buf[1..FIELD_BYTES].copy_from_slice(&field.letters);
 }
 
 // The bytes of the first n fields' texts, at the front of a buffer. Each field's nine bytes are written in their own stretch of it.
@@ -120,72 +100,58 @@ pub fn store(buf: &mut [u8], g: Substitution, n: usize)
     requires { All Whole g × (length g ≡ 6) × (n ≤ 6) × (9 * n ≤ length buf.old) }
     ensures { buf.new ≡ encode_filling (take n (texts_of g)) ++ drop (9 * n) buf.old }
 {
-    let mut f: usize = 0;
-    while f < n {
-        let field = g[f];
-        let at = FIELD_BYTES * f;
-        store_field(&mut buf[at..], field);
-        f += 1;
+    for f in 0..n {
+        store_field(&mut buf[FIELD_BYTES * f..], g[f]);
     }
 }
 
 // Whether the nine bytes at the front are a text of at most that many of the letters, or the first fault.
-fn check_field(bytes: &[u8], limit: u8, letters: u8) -> Admission
+fn check_field(bytes: &[u8], limit: u8, letters: u8) -> Result<(), Fault>
     requires { 9 ≤ length bytes.now }
     ensures { left bytes.now result ≡ rest (a_text letters limit bytes.now) }
 {
-    let len = wide(bytes[0]);
-    if len > wide(limit) {
-        return Admission::Refused(Fault::Length);
+    let len = bytes[0];
+    if len > limit {
+        return Err(Fault::Length);
     }
-    let mut c: usize = 0;
-    while c < PLACES {
+    for c in 0..PLACES {
         let x = bytes[c + 1];
-        if c < len {
+        if c < usize::from(len) {
             if x >= letters {
-                return Admission::Refused(Fault::Letter);
+                return Err(Fault::Letter);
             }
-        } else {
-            if x != PAST {
-                return Admission::Refused(Fault::Past);
-            }
+        } else if x != PAST {
+            return Err(Fault::Past);
         }
-        c += 1;
     }
-    Admission::Admitted
+    Ok(())
 }
 
 // Whether these bytes are a filling of an accepted sheet, or the first refusal in document 01's order. If they are, `load` gives
 // the substitution.
-pub fn admit(sheet: &[u8], bytes: &[u8]) -> Admission
+pub fn admit(sheet: &[u8], bytes: &[u8]) -> Result<(), Fault>
     requires { Accepted sheet.now }
     ensures { IsAdmitted result ≡ rest (filling (sheet_of sheet.now) bytes.now) }
 {
     let counts = parts::four_counts(sheet);
-    let fields = wide(counts.fields);
+    let fields = usize::from(counts.fields);
     if bytes.len() != FIELD_BYTES * fields {
-        return Admission::Refused(Fault::Size);
+        return Err(Fault::Size);
     }
-    let mut f: usize = 0;
-    while f < fields {
-        let at = FIELD_BYTES * f;
-        let limit = parts::limit(sheet, f);
-        match check_field(&bytes[at..], limit, counts.letters) {
-            Admission::Refused(fault) => {
-                return Admission::Refused(fault);
-            }
-            Admission::Admitted => {
-                f += 1;
-            }
-        }
+    for f in 0..fields {
+        check_field(
+            &bytes[FIELD_BYTES * f..],
+            parts::limit(sheet, f),
+            counts.letters,
+        )?;
     }
-    Admission::Admitted
+    Ok(())
 }
 
-// The substitution of a filling that was IsAdmitted.
+// The substitution of a filling that was admitted.
 pub fn load(sheet: &[u8], bytes: &[u8]) -> Substitution
     requires { Accepted sheet.now × (rest (filling (sheet_of sheet.now) bytes.now) ≡ got tt []) }
     ensures { Held sheet.now result × (filling (sheet_of sheet.now) bytes.now ≡ got (meaning sheet.now result) []) }
 {
-    load_fields(bytes, wide(parts::four_counts(sheet).fields))
+    load_fields(bytes, usize::from(parts::four_counts(sheet).fields))
 }

@@ -1,6 +1,6 @@
 -- The steps of the code: rows put one after the other. Assumes nothing.
 use mathlib.Core.Path.{◌≡◌, refl, sym, ap, ap₂, subst, ◌∙◌}
-use mathlib.Core.Bool.{Bool, true, false, not}
+use mathlib.Core.Bool.{Bool, true, false}
 use mathlib.Core.List.{List, [], ◌∷◌, ◌++◌, map, append-nil}
 use Prim.Native.Nat.{ℕ, ◌+◌, ◌*◌, ◌<◌, ◌≤◌}
 use native.Mathlib.Nat.{mul-add, mul-le-mul_left}
@@ -41,9 +41,9 @@ asked_size false rows h = omega arith
 
 -- none, one and two rows put from row i on
 module _ (i : ℕ) where
-  pub no_rows : (before : List ℕ) (m : Bool) (rows : List (List ℕ)) → not m ≡ true → Puts before (14 * i) (flat (when m rows)) before (14 * i)
+  pub no_rows : (before : List ℕ) (m : Bool) (rows : List (List ℕ)) → m ≡ false → Puts before (14 * i) (flat (when m rows)) before (14 * i)
   unfolding each
-  no_rows before true rows h = never h
+  no_rows before true rows h = never (sym h)
   no_rows before false rows h = let none = nothing before (14 * i) in (none.past, none.holds)
 
   pub one_row : (before after row : List ℕ) → length row ≡ 14 → after ≡ placed before (14 * i) row → Puts before (14 * i) (flat (row ∷ [])) after (14 * (i + 1))

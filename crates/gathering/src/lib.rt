@@ -17,11 +17,7 @@ fn put_row(rows: &mut [u16], i: usize, row: Row)
     ensures { rows.new ≡ placed rows.old (14 * i) row }
 {
     let at = ROW_SIZE * i;
-    let mut k: usize = 0;
-    while k < ROW_SIZE {
-        rows[at + k] = row[k];
-        k += 1;
-    }
+    rows[at..at + ROW_SIZE].copy_from_slice(&row);
 }
 
 // The rows of equation p from row i on, if it is asked. Returns the number of the row after them.
@@ -56,12 +52,9 @@ fn put_equations(rows: &mut [u16], sheet: &[u8], marks: Marks) -> usize
     requires { Admitted sheet.now × (168 ≤ length rows.old) }
     ensures { Puts rows.old 0 (flat (each (asked marks (sheet_of sheet.now).equations) equation_rows)) rows.new (14 * result) × (result ≤ 8) }
 {
-    let equations = shape::equations(sheet);
-    let mut i: usize = 0;
-    let mut p: usize = 0;
-    while p < equations {
+    let mut i = 0;
+    for p in 0..shape::equations(sheet) {
         i = put_equation(rows, i, sheet, p, marks[p]);
-        p += 1;
     }
     i
 }
@@ -71,12 +64,9 @@ fn put_constraints(rows: &mut [u16], start: usize, sheet: &[u8], marks: Marks) -
     requires { Admitted sheet.now × (start ≤ 8) × (168 ≤ length rows.old) }
     ensures { Puts rows.old (14 * start) (flat (each (asked marks (sheet_of sheet.now).constraints) constraint_rows)) rows.new (14 * result) × (result ≤ 12) }
 {
-    let constraints = shape::constraints(sheet);
     let mut i = start;
-    let mut r: usize = 0;
-    while r < constraints {
+    for r in 0..shape::constraints(sheet) {
         i = put_constraint(rows, i, sheet, r, marks[r]);
-        r += 1;
     }
     i
 }

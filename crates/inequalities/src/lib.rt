@@ -30,8 +30,7 @@ pub fn term(rows: &[u16], at: usize, n: u8) -> usize
     requires { at < length rows.now }
     ensures { (result ≡ get_or rows.now at 0 * n) × (result ≤ 16711425) }
 {
-    let factor = rows[at];
-    (factor as usize) * (n as usize)
+    usize::from(rows[at]) * usize::from(n)
 }
 
 // The side of a row that starts at an offset, at these lengths.
@@ -39,11 +38,9 @@ pub fn side_sum(rows: &[u16], at: usize, n: Lengths) -> usize
     requires { at + 7 ≤ length rows.now }
     ensures { result ≡ side_sum (drop at rows.now) n }
 {
-    let mut sum = term(rows, at + FIELDS, 1);
-    let mut f: usize = 0;
-    while f < FIELDS {
+    let mut sum = usize::from(rows[at + FIELDS]);
+    for f in 0..FIELDS {
         sum += term(rows, at + f, n[f]);
-        f += 1;
     }
     sum
 }

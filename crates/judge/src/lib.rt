@@ -2,21 +2,19 @@
 // it does not.
 #![tactic(auto)]
 
-ghost use Rattle.std.specs.Prelude.{◌≡◌, ◌<◌, length};
-ghost use Rattle.model.specs.Sheet.{Accepted, sheet_of, equation, constraint};
+ghost use Rattle.std.specs.Prelude.{◌≡◌, true, false, ℕ, ◌<◌, ◌≤◌, length};
+ghost use Rattle.model.specs.Sheet.{sheet_of, equation, constraint};
 ghost use Rattle.model.specs.Word.{weight};
 ghost use Rattle.model.specs.Mismatch.{judged};
 ghost use Rattle.model.specs.Word as model;
 ghost use Rattle.fields.specs.Memory.{Held, meaning};
-ghost use Rattle.judge.specs.Asks.{many, holds_at, hold_from};
 ghost use Rattle.judge.specs.Answer.{meant};
 
 use fields::Substitution;
 use mismatch::{Mismatch, compare_sides};
-use scan::wide;
 
 // What a substitution comes to: it solves the sheet; or the first equation whose two words differ; or the first constraint that does not hold.
-#[derive(Clone, Copy)]
+#[derive(Clone, Copy, Debug, PartialEq, Eq)]
 pub enum Judgement {
     Solution,
     Differs(usize, Mismatch),
@@ -36,13 +34,10 @@ fn weigh(sheet: &[u8], r: usize, g: Substitution) -> i16
     requires { Held sheet.now g × (r < length (sheet_of sheet.now).constraints) }
     ensures { result ≡ weight (constraint (sheet_of sheet.now) r) (meaning sheet.now g) (length (sheet_of sheet.now).limits) }
 {
-    let fields = wide(parts::four_counts(sheet).fields);
+    let fields = usize::from(parts::four_counts(sheet).fields);
     let mut sum: i16 = 0;
-    let mut f: usize = 0;
-    while f < fields {
-        let len = g[f].len as i16;
-        sum = sum + (parts::coefficient(sheet, r, f) as i16) * len;
-        f += 1;
+    for f in 0..fields {
+        sum += i16::from(parts::coefficient(sheet, r, f)) * i16::from(g[f].len);
     }
     sum
 }
@@ -55,50 +50,19 @@ fn constraint_holds(sheet: &[u8], r: usize, g: Substitution) -> bool
     weigh(sheet, r, g) <= parts::most(sheet, r)
 }
 
-// What a sheet asks, by its kind.
-#[derive(Clone, Copy)]
-enum Kind {
-    Equations,
-    Constraints,
-}
-
-// How many there are of a kind.
-fn count(sheet: &[u8], kind: Kind) -> usize
-    requires { Accepted sheet.now }
-    ensures { result ≡ many kind (sheet_of sheet.now) }
+// How many of n hold before the first that does not: all of them if there is none.
+fn hold<F: Fn(usize) -> bool>(n: usize, holds: F) -> usize
+    requires { (i : ℕ) → i < n → F.pre holds i }
+    ensures within { result ≤ n }
+    ensures before { (i : ℕ) → i < result → F.post holds i true }
+    ensures first { result < n → F.post holds result false }
 {
-    let counts = parts::four_counts(sheet);
-    match kind {
-        Kind::Equations => wide(counts.equations),
-        Kind::Constraints => wide(counts.constraints),
-    }
-}
-
-// Whether number i of a kind holds.
-fn holds(sheet: &[u8], kind: Kind, i: usize, g: Substitution) -> bool
-    requires { Held sheet.now g × (i < many kind (sheet_of sheet.now)) }
-    ensures { result ≡ holds_at kind (sheet_of sheet.now) (meaning sheet.now g) i }
-{
-    match kind {
-        Kind::Equations => equation_holds(sheet, i, g),
-        Kind::Constraints => constraint_holds(sheet, i, g),
-    }
-}
-
-// How many of a kind hold before the first that does not: all of them if there is none.
-fn hold(sheet: &[u8], kind: Kind, g: Substitution) -> usize
-    requires { Held sheet.now g }
-    ensures { result ≡ hold_from kind (sheet_of sheet.now) (meaning sheet.now g) 0 }
-{
-    let n = count(sheet, kind);
-    let mut i: usize = 0;
-    while i < n {
-        if !holds(sheet, kind, i, g) {
+    for i in 0..n {
+        if !holds(i) {
             return i;
         }
-        i += 1;
     }
-    i
+    n
 }
 
 // What the substitution comes to.
@@ -106,12 +70,15 @@ pub fn judge(sheet: &[u8], g: Substitution) -> Judgement
     requires { Held sheet.now g }
     ensures { meant result ≡ judged (sheet_of sheet.now) (meaning sheet.now g) }
 {
-    let p = hold(sheet, Kind::Equations, g);
-    if p < count(sheet, Kind::Equations) {
+    let counts = parts::four_counts(sheet);
+    let equations = usize::from(counts.equations);
+    let p = hold(equations, |p| equation_holds(sheet, p, g));
+    if p < equations {
         return Judgement::Differs(p, compare_sides(sheet, p, g));
     }
-    let r = hold(sheet, Kind::Constraints, g);
-    if r < count(sheet, Kind::Constraints) {
+    let constraints = usize::from(counts.constraints);
+    let r = hold(constraints, |r| constraint_holds(sheet, r, g));
+    if r < constraints {
         return Judgement::Breaks(r);
     }
     Judgement::Solution
@@ -122,9 +89,5 @@ pub fn solves(sheet: &[u8], g: Substitution) -> bool
     requires { Held sheet.now g }
     ensures { result ≡ model.solves (sheet_of sheet.now) (meaning sheet.now g) }
 {
-    match judge(sheet, g) {
-        Judgement::Solution => true,
-        Judgement::Differs(_, _) => false,
-        Judgement::Breaks(_) => false,
-    }
+    matches!(judge(sheet, g), Judgement::Solution)
 }

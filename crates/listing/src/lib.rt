@@ -3,12 +3,13 @@
 #![tactic(auto)]
 
 ghost use Rattle.std.specs.Prelude.{◌≡◌, ◌<◌, ◌≤◌, length, replicate};
+ghost use Rattle.calls.specs.Reply.{line_ended};
 ghost use Rattle.listing.specs.Answer.{number_of, Form};
 
-use tally::{LINE_END, Lines, UNLISTED};
+use tally::{LINE_END, UNLISTED};
 
 // What a text is refused for, by document 01's numbers 31 to 36.
-#[derive(Clone, Copy)]
+#[derive(Clone, Copy, Debug, PartialEq, Eq)]
 pub enum Fault {
     End,
     Line,
@@ -18,55 +19,52 @@ pub enum Fault {
     Twice,
 }
 
-// Whether a text lists an assignment.
-#[derive(Clone, Copy)]
-pub enum Listing {
-    Listed,
-    Refused(Fault),
+// Document 01's number of a fault.
+impl From<Fault> for u8 {
+    ghost from_gives = { λ e r. r ≡ number_of e };
+
+    fn from(fault: Fault) -> u8 {
+        match fault {
+            Fault::End => 31,
+            Fault::Line => 32,
+            Fault::Status => 33,
+            Fault::Closing => 34,
+            Fault::Above => 35,
+            Fault::Twice => 36,
+        }
+    }
 }
 
-// Document 01's number of a fault.
-pub fn number(fault: Fault) -> u8
-    ensures { result ≡ number_of fault }
+// Whether a text is empty or ends with a line end.
+fn ended(text: &[u8]) -> bool
+    ensures { result ≡ line_ended text.now }
 {
-    match fault {
-        Fault::End => 31,
-        Fault::Line => 32,
-        Fault::Status => 33,
-        Fault::Closing => 34,
-        Fault::Above => 35,
-        Fault::Twice => 36,
-    }
+    text.is_empty() || text[text.len() - 1] == LINE_END
 }
 
 // Reads a text of at most 65,536 bytes: whether it breaks none of document 01's 31 to 36, the variables being as many as there are marks but
 // one, or the first of these. If none, a variable's mark is `tally::PLUS` just where the text makes it true.
-pub fn read(marks: &mut [u8], text: &[u8]) -> Listing
+pub fn read(marks: &mut [u8], text: &[u8]) -> Result<(), Fault>
     requires { (0 < length marks.old) × (marks.old ≡ replicate (length marks.old) 0) × (length text.now ≤ 65536) }
     ensures { Form (length marks.old) text.now result marks.new }
 {
-    let len = text.len();
-    if len > 0 {
-        if text[len - 1] != LINE_END {
-            return Listing::Refused(Fault::End);
-        }
+    if !ended(text) {
+        return Err(Fault::End);
     }
-    match tally::read_lines(marks, text) {
-        Lines::Unknown => Listing::Refused(Fault::Line),
-        Lines::Known(sum) => {
-            if !sum.status || sum.again || sum.early {
-                return Listing::Refused(Fault::Status);
-            }
-            if sum.after || marks[0] == UNLISTED {
-                return Listing::Refused(Fault::Closing);
-            }
-            if sum.above {
-                return Listing::Refused(Fault::Above);
-            }
-            if sum.twice {
-                return Listing::Refused(Fault::Twice);
-            }
-            Listing::Listed
-        }
+    let Some(sum) = tally::read_lines(marks, text) else {
+        return Err(Fault::Line);
+    };
+    if !sum.status || sum.again || sum.early {
+        return Err(Fault::Status);
     }
+    if sum.after || marks[0] == UNLISTED {
+        return Err(Fault::Closing);
+    }
+    if sum.above {
+        return Err(Fault::Above);
+    }
+    if sum.twice {
+        return Err(Fault::Twice);
+    }
+    Ok(())
 }

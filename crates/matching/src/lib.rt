@@ -16,10 +16,8 @@ pub fn put_unlike(buf: &mut [u8], at: usize, here: usize, x: usize, first: usize
     ensures { Puts buf.old at (each (up_to n) (unlike_line here x first)) buf.new result }
 {
     let mut past = at;
-    let mut k: usize = 0;
-    while k < n {
+    for k in 0..n {
         past = clause_line(buf, past, &[here + 1, x + 2 * (first + k) + 1]);
-        k += 1;
     }
     past
 }
@@ -30,10 +28,8 @@ pub fn put_matches(buf: &mut [u8], at: usize, l: usize, here: usize, x: usize, y
     ensures { Puts buf.old at (each (up_to l) (match_line l here x y)) buf.new result }
 {
     let mut past = at;
-    let mut a: usize = 0;
-    while a < l {
+    for a in 0..l {
         past = clause_line(buf, past, &[here + 1, y + 2 * l, x + 2 * a + 1, y + 2 * a]);
-        a += 1;
     }
     past
 }

@@ -11,7 +11,8 @@ use fields::Substitution;
 use scan::WIDEST;
 
 // What the comparison of two words gives: how many letters agree from the start, and of the rest its side, 0 for left and 1 for right, and its length.
-#[derive(Clone, Copy)]
+// The side is a number, as in document 01 and in the interface to C.
+#[derive(Clone, Copy, Debug, PartialEq, Eq)]
 pub struct Mismatch {
     pub agreeing: usize,
     pub side: usize,
@@ -22,10 +23,7 @@ pub struct Mismatch {
 fn rest_side(agreeing: usize, left: usize) -> usize
     ensures { result ≡ pick (ltb agreeing left) 0 1 }
 {
-    if agreeing < left {
-        return 0;
-    }
-    1
+    if agreeing < left { 0 } else { 1 }
 }
 
 // Compares two words.
@@ -33,13 +31,12 @@ fn compare<'a>(left: &'a [u8], right: &'a [u8]) -> Mismatch
     ensures { (s : Sheet) → Compares s left.now right.now result }
 {
     let agreeing = words::agreeing(left, right);
-    let rest = words::rest(left, right);
-    let over = rest.len();
+    let rest = words::rest(left, right).len();
     let side = rest_side(agreeing, left.len());
     Mismatch {
-        agreeing: agreeing,
-        side: side,
-        rest: over,
+        agreeing,
+        side,
+        rest,
     }
 }
 

@@ -6,6 +6,7 @@ use Prim.Native.Nat.{ℕ, zero, suc, ◌+◌, ◌-◌, ◌*◌, ◌<◌, ◌≤�
 use native.Mathlib.Numerals.{add-one}
 use native.Mathlib.Omega.{arith}
 use lib.Dec.{leb}
+use Rattle.std.specs.Prelude.{Option, Some, None}
 use lib.Arith.{lt_of_le-ne}
 use lib.ListN.{length, drop, get_or, drop_of_length-le}
 use lib.Seq.{drop-cons}
@@ -52,39 +53,39 @@ summed_more digits i sum s h low high =
       says = s.says ∙ rw (add-one, drop-cons digits i 0);
     }
 
--- The value of a list of digits, or 0.
-abbrev pub valued : List ℕ → ℕ
-valued ds = pick (magnitude ds) (value_of ds) 0
+-- The value of a list of digits, if it is a number's.
+abbrev pub valued : List ℕ → Option ℕ
+valued ds = pick (magnitude ds) (Some (value_of ds)) None
 
-pub valued_empty : (ds : List ℕ) → length ds ≡ 0 → valued ds ≡ 0
+pub valued_empty : (ds : List ℕ) → length ds ≡ 0 → valued ds ≡ None
 valued_empty [] h = refl
 valued_empty (d ∷ ds) h = absurd (omega arith)
 
-pub valued_long : (ds : List ℕ) → 9 < length ds → valued ds ≡ 0
+pub valued_long : (ds : List ℕ) → 9 < length ds → valued ds ≡ None
 valued_long ds h = let low : 1 ≤ length ds = omega arith in rw (le-leb _ _ low, lt-leb _ _ h)
 
-pub valued_nought : (ds : List ℕ) → 1 ≤ length ds → length ds ≤ 9 → get_or ds 0 0 ≡ 48 → valued ds ≡ 0
+pub valued_nought : (ds : List ℕ) → 1 ≤ length ds → length ds ≤ 9 → get_or ds 0 0 ≡ 48 → valued ds ≡ None
 valued_nought ds low high e =
     rw (le-leb 1 (length ds) low, le-leb (length ds) 9 high, starts 48 ds low e) (by_test (all figure ds) (λ t. rw t) (λ t. rw t))
 
 module _ (ds : List ℕ) (i sum : ℕ) (s : Summed ds i sum) (low : 1 ≤ length ds) (high : length ds ≤ 9) where
-  valued_other : i < length ds → figure (get_or ds i 0) ≡ false → valued ds ≡ 0
+  valued_other : i < length ds → figure (get_or ds i 0) ≡ false → valued ds ≡ None
   valued_other h e =
       rw (le-leb 1 (length ds) low, le-leb (length ds) 9 high, s.figures ∙ all_fails figure ds i 0 h e)
 
-  pub valued_below : i < length ds → get_or ds i 0 < 48 → valued ds ≡ 0
+  pub valued_below : i < length ds → get_or ds i 0 < 48 → valued ds ≡ None
   valued_below h l = valued_other h (rw (lt-leb 48 (get_or ds i 0) l))
 
-  pub valued_past : i < length ds → 57 < get_or ds i 0 → valued ds ≡ 0
+  pub valued_past : i < length ds → 57 < get_or ds i 0 → valued ds ≡ None
   valued_past h l = valued_other h (let b : 48 ≤ get_or ds i 0 = omega arith in rw (le-leb 48 (get_or ds i 0) b, lt-leb (get_or ds i 0) 57 l))
 
-  pub valued_sum : length ds ≤ i → (get_or ds 0 0 ≡ 48 → ⊥) → valued ds ≡ sum
+  pub valued_sum : length ds ≤ i → (get_or ds 0 0 ≡ 48 → ⊥) → valued ds ≡ Some sum
   unfolding value_from
   valued_sum h e =
       rw (le-leb 1 (length ds) low, le-leb (length ds) 9 high, s.figures ∙ all_whole figure ds i 0 h, starts_not 48 ds e)
-      (s.says ∙ ap (value_from sum) (drop_of_length-le ds h))
+      (ap Some (s.says ∙ ap (value_from sum) (drop_of_length-le ds h)))
 
--- What a magnitude is: figures, the first not 0. So its value is at least 1, and 0 is the value of a list that is none.
+-- What a magnitude is: figures, the first not 0. So its value is at least 1.
 magnitude-parts : (ds : List ℕ) → magnitude ds ≡ true → (all figure ds ≡ true) × (not (starts_with (48 ∷ []) ds) ≡ true)
 magnitude-parts ds h = and_split (all figure ds) (not (starts_with (48 ∷ []) ds)) (and_split (between 1 9 (length ds)) _ h).1
 
@@ -109,11 +110,12 @@ magnitude-value (d ∷ ds) h =
     let g = value_grows (with_figure 0 d) ds in
     omega arith
 
-module _ (ds : List ℕ) (r : ℕ) (e : r ≡ valued ds) where
-  pub valued_none : r ≡ 0 → magnitude ds ≡ false
-  valued_none z = by_test (magnitude ds)
-      (λ t. let k = magnitude-value ds t in let q : r ≡ value_of ds = e ∙ rw t in absurd (omega arith))
-      (λ t. t)
+module _ (ds : List ℕ) (r : Option ℕ) (e : r ≡ valued ds) where
+  pub valued_none : r ≡ None → magnitude ds ≡ false
+  valued_none z = by_test (magnitude ds) (λ t. let q : None ≡ Some (value_of ds) = sym z ∙ e ∙ rw t in absurd (cc)) (λ t. t)
 
-  pub valued_some : (r ≡ 0 → ⊥) → (magnitude ds ≡ true) × (r ≡ value_of ds)
-  valued_some n = by_test (magnitude ds) (λ t. (t, e ∙ rw t)) (λ t. absurd (n (e ∙ rw t)))
+  pub valued_some : (n : ℕ) → r ≡ Some n → (magnitude ds ≡ true) × (n ≡ value_of ds)
+  valued_some n z =
+      by_test (magnitude ds)
+      (λ t. let q : Some n ≡ Some (value_of ds) = sym z ∙ e ∙ rw t in (t, cc))
+      (λ t. let q : Some n ≡ None = sym z ∙ e ∙ rw t in absurd (cc))

@@ -16,15 +16,12 @@ use Rattle.model.specs.Word.{Legal}
 use Rattle.formula.specs.Clause.{K, blank, fields}
 use Rattle.formula.specs.Numbering.{variables, number}
 use Rattle.formula.specs.Assignment.{Assignment, truth, up_to_blank, held, true_values, spelled}
-use Rattle.calls.specs.Reply.{all_single, blanks_last, none_after_blank}
+use Rattle.calls.specs.Reply.{blanks_last}
 use Rattle.model.proofs.Lists.{by_test, from_at}
-use Rattle.model.proofs.Keeping.{keep-yes, keep-no, length-map-from, map_next}
+use Rattle.model.proofs.Keeping.{all_below, all_not, keep-yes, keep-no, length-map-from, map_next}
 use Rattle.model.proofs.Seams.{store_next, drop-replicate}
 use Rattle.formula.proofs.KClauses.{spelled-text, spelled-legal}
 use Rattle.formula.proofs.Numbering.{number_small, variable_count_lem}
-use Rattle.places.specs.declared.Test.{Test}
-use Rattle.places.specs.declared.Test.TheVariants.{Single, BlanksLast}
-use Rattle.places.specs.Test.{field_passes, all_pass}
 use Rattle.fields.specs.declared.Field.{Field}
 use Rattle.fields.specs.Memory.{text_of, texts_of, field, Whole, meaning, Held}
 
@@ -115,17 +112,9 @@ counted-all s marks f c l a count least el ea h =
     ap (λ k. keep (is_true s marks f c) (from a k)) n ∙ ap (λ k. keep (is_true s marks f c) (from k (suc (blank s)))) ea in
     (h.counts ∙ ap length e, h.is_least ∙ ap (λ (xs : List ℕ). get_or xs 0 l) e ∙ ap (λ k. get_or (true_values s (truth marks) f c) 0 k) el, omega arith)
 
--- `all_pass_lem`: a test of all fields is one of each
-pub pass_all : (test : Test) (s : Sheet) (w : Assignment) → all_pass test s w ≡ all (field_passes test s w) (up_to (fields s))
-unfolding all_single none_after_blank
-pass_all Single s w = refl
-pass_all BlanksLast s w = refl
-
--- what passes from f on up to n, and at the one before, passes from that on
-pub from_less : (p : ℕ → Bool) (f n : ℕ) → ((i : ℕ) → f ≤ i → i < n → p i ≡ true) → p (f - 1) ≡ true → (i : ℕ) → f - 1 ≤ i → i < n → p i ≡ true
-from_less p f n h e i low high = by_test (eqb (f - 1) i)
-    (λ t. subst (λ k. p k ≡ true) (eqb-true (f - 1) i t) e)
-    (λ t. let m : f - 1 < i = lt_of_le-ne low (eqb-false (f - 1) i t) in h i (omega arith) high)
+-- `every`: what it answers of tests from 0 up to n
+pub every_is : (p : ℕ → Bool) (n : ℕ) (r : Bool) → (r ≡ true → (i : ℕ) → i < n → p i ≡ true) → (r ≡ false → (i : ℕ) × (i < n) × (p i ≡ false)) → r ≡ all p (up_to n)
+every_is p n r pass fail = by_test r (λ t. t ∙ sym (all_below p n (pass t))) (λ t. let k = fail t in t ∙ sym (all_not p n k.0 k.1 k.2))
 
 -- `blanks_last`: what is asked of values before a blank, and after one; and of those at the places from c up to n
 abbrev pub asked : Bool → ℕ → List ℕ → Bool

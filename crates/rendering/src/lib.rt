@@ -27,10 +27,8 @@ fn put_all_pairs(buf: &mut [u8], at: usize, first: usize, letters: usize) -> usi
     ensures { Puts buf.old at (each (up_to (suc letters)) (pair_lines first letters)) buf.new result }
 {
     let mut past = at;
-    let mut a: usize = 0;
-    while a <= letters {
+    for a in 0..letters + 1 {
         past = put_unlike(buf, past, first + 2 * a, first, a + 1, letters - a);
-        a += 1;
     }
     past
 }
@@ -57,10 +55,8 @@ fn put_field(buf: &mut [u8], at: usize, sheet: &[u8], f: usize) -> usize
 {
     let limit = shape::limit(sheet, f);
     let mut past = at;
-    let mut c: usize = 0;
-    while c < limit {
+    for c in 0..limit {
         past = put_place(buf, past, sheet, f, c);
-        c += 1;
     }
     past
 }
@@ -84,10 +80,8 @@ fn put_section(buf: &mut [u8], at: usize, sheet: &[u8], section: Section) -> usi
 {
     let parts = shape::parts(sheet, section);
     let mut past = at;
-    let mut i: usize = 0;
-    while i < parts {
+    for i in 0..parts {
         past = put_part(buf, past, sheet, section, i);
-        i += 1;
     }
     past
 }

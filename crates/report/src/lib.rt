@@ -13,7 +13,7 @@ ghost use Rattle.calls.specs.Calls.{finished, checking};
 ghost use Rattle.fields.specs.Memory.{Held, meaning};
 
 use fields::Substitution;
-use scan::{WIDEST, wide};
+use scan::WIDEST;
 
 // Room for any report, and for the line of any refusal.
 pub const MOST_REPORT: usize = 236;
@@ -37,12 +37,10 @@ fn field_lines(buf: &mut [u8], at: usize, sheet: &[u8], g: Substitution) -> usiz
 {
     let fields = parts::four_counts(sheet).fields;
     let mut past = at;
-    let mut f: u8 = 0;
-    while f < fields {
-        let field = g[wide(f)];
-        let letters = field.letters;
-        past = line(buf, past, b"field ", f, sheet, &letters[..wide(field.len)]);
-        f += 1;
+    for f in 0..fields {
+        let field = g[usize::from(f)];
+        let letters = &field.letters[..usize::from(field.len)];
+        past = line(buf, past, b"field ", f, sheet, letters);
     }
     past
 }
@@ -54,12 +52,10 @@ fn pair_lines(buf: &mut [u8], at: usize, sheet: &[u8], g: Substitution) -> usize
 {
     let equations = parts::four_counts(sheet).equations;
     let mut past = at;
-    let mut p: u8 = 0;
-    while p < equations {
+    for p in 0..equations {
         let mut word = [0u8; WIDEST];
-        let n = words::spell(&mut word, parts::template(sheet, wide(p), 0), g);
+        let n = words::spell(&mut word, parts::template(sheet, usize::from(p), 0), g);
         past = line(buf, past, b"pair ", p, sheet, &word[..n]);
-        p += 1;
     }
     past
 }
@@ -82,6 +78,6 @@ pub fn refusal(buf: &mut [u8], number: u8) -> usize
     ensures { Puts buf.old 0 (refused_line number) buf.new result × (result ≤ 12) }
 {
     let a = words::put(buf, 0, b"refused ");
-    let b = dimacs::print(buf, a, wide(number));
+    let b = dimacs::print(buf, a, usize::from(number));
     words::put(buf, b, b"\n")
 }

@@ -1,9 +1,8 @@
-// Bytes and stretches of them, and where a sheet's header has what. Knows nothing of rows, nor of what a sheet means.
+// The first byte of a kind, and where a sheet's header has what. Knows nothing of rows, nor of what a sheet means.
 #![tactic(auto)]
 
-mod bytes;
-
-pub use bytes::{find, in_range, same, signed_byte, signed_pair, starts_with, stretch, wide};
+ghost use Rattle.std.specs.Prelude.{◌≡◌, ◌+◌, ◌≤◌, length, drop};
+ghost use Rattle.model.specs.Lists.{span};
 
 // A header's length, and the offsets in it: the version's two bytes and the four counts.
 pub const HEADER: usize = 9;
@@ -24,3 +23,14 @@ pub const CONSTRAINT_COUNT: usize = 8;
 pub const FIRST_FIELD: u8 = 128;
 
 pub const WIDEST: usize = 24;
+
+// The offset of the first x at or after an offset, or the length where there is none.
+pub fn find(bytes: &[u8], at: usize, x: u8) -> usize
+    requires { at ≤ length bytes.now }
+    ensures { (result ≡ at + span x (drop at bytes.now)) × (at ≤ result) × (result ≤ length bytes.now) }
+{
+    match bytes[at..].iter().position(|&b| b == x) {
+        Some(i) => at + i,
+        None => bytes.len(),
+    }
+}

@@ -5,8 +5,6 @@ ghost use Rattle.std.specs.Prelude.{◌≡◌, ◌+◌, ◌<◌, ◌≤◌, leng
 ghost use Rattle.schedule.specs.Schedule.{Admitted};
 ghost use Rattle.schedule.specs.Offsets.{minute_at, next_at, start_at};
 
-use scan::wide;
-
 // The offset of the first template's count.
 pub const FIRST: usize = 5;
 
@@ -15,7 +13,7 @@ pub fn minute(hours: &[u8], at: usize) -> usize
     requires { at + 1 < length hours.now }
     ensures { result ≡ minute_at hours.now at }
 {
-    wide(hours[at]) * 256 + wide(hours[at + 1])
+    usize::from(u16::from_be_bytes([hours[at], hours[at + 1]]))
 }
 
 // The offset past the intervals of the template whose count is at an offset.
@@ -23,7 +21,7 @@ pub fn next(hours: &[u8], at: usize) -> usize
     requires { at < length hours.now }
     ensures { result ≡ next_at hours.now at }
 {
-    at + 1 + 4 * wide(hours[at])
+    at + 1 + 4 * usize::from(hours[at])
 }
 
 // The offset of the count of template i, of n.
@@ -32,10 +30,8 @@ pub fn start(hours: &[u8], n: usize, i: usize) -> usize
     ensures { result ≡ start_at hours.now 5 i }
 {
     let mut at = FIRST;
-    let mut k: usize = 0;
-    while k < i {
+    for _ in 0..i {
         at = next(hours, at);
-        k += 1;
     }
     at
 }

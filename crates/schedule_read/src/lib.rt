@@ -8,32 +8,26 @@ ghost use Rattle.schedule.specs.Offsets as offsets;
 ghost use Rattle.schedule_read.specs.Answer.{number_of, TestsOne, Tests, TestsAll, Reads};
 
 use book_read::opens;
-use scan::wide;
 use schedule_parts::{FIRST, minute, next};
 
 // What reading refuses an hours file for: 43, 44 and 45.
-#[derive(Clone, Copy)]
+#[derive(Clone, Copy, Debug, PartialEq, Eq)]
 pub enum Refusal {
     File,
     Bounds,
     Order,
 }
 
-// The answer of reading.
-#[derive(Clone, Copy)]
-pub enum Reading {
-    Accepted,
-    Refused(Refusal),
-}
-
 // Document 02's number of a refusal.
-pub fn number(refusal: Refusal) -> u8
-    ensures { result ≡ number_of refusal }
-{
-    match refusal {
-        Refusal::File => 43,
-        Refusal::Bounds => 44,
-        Refusal::Order => 45,
+impl From<Refusal> for u8 {
+    ghost from_gives = { λ e r. r ≡ number_of e };
+
+    fn from(refusal: Refusal) -> u8 {
+        match refusal {
+            Refusal::File => 43,
+            Refusal::Bounds => 44,
+            Refusal::Order => 45,
+        }
     }
 }
 
@@ -48,16 +42,11 @@ fn fits(hours: &[u8], n: usize) -> bool
     ensures { result ≡ offsets.fits hours.now 5 n }
 {
     let mut at = FIRST;
-    let mut i: usize = 0;
-    while i < n {
-        if hours.len() <= at {
-            return false;
-        }
-        if MOST_INTERVALS < hours[at] {
+    for _ in 0..n {
+        if hours.len() <= at || MOST_INTERVALS < hours[at] {
             return false;
         }
         at = next(hours, at);
-        i += 1;
     }
     at == hours.len()
 }
@@ -66,83 +55,59 @@ fn fits(hours: &[u8], n: usize) -> bool
 fn in_week(start: usize, end: usize) -> bool
     ensures { result ≡ in_week (record { start = start; end = end }) }
 {
-    if end <= start {
-        return false;
-    }
-    end <= WEEK
+    start < end && end <= WEEK
 }
 
 // Tests the interval at an offset, with the least start, where the preceding one ends: accepted, or 44 or 45.
-fn interval(hours: &[u8], at: usize, least: usize) -> Reading
+fn interval(hours: &[u8], at: usize, least: usize) -> Result<(), Refusal>
     requires { at + 4 ≤ length hours.now }
     ensures { TestsOne least (interval_at hours.now at) result }
 {
     let start = minute(hours, at);
     let end = minute(hours, at + 2);
-    let inside = in_week(start, end);
-    if !inside {
-        return Reading::Refused(Refusal::Bounds);
+    if !in_week(start, end) {
+        return Err(Refusal::Bounds);
     }
     if start < least {
-        return Reading::Refused(Refusal::Order);
+        return Err(Refusal::Order);
     }
-    Reading::Accepted
+    Ok(())
 }
 
 // Tests the intervals of the template whose count is at an offset, one after another.
-fn intervals(hours: &[u8], at: usize) -> Reading
+fn intervals(hours: &[u8], at: usize) -> Result<(), Refusal>
     requires { (at < length hours.now) × (next_at hours.now at ≤ length hours.now) }
     ensures { Tests (own_at hours.now at) result }
 {
-    let n = wide(hours[at]);
+    let n = usize::from(hours[at]);
     let mut least: usize = 0;
-    let mut k = at + 1;
-    let mut w: usize = 0;
-    while w < n {
-        match interval(hours, k, least) {
-            Reading::Refused(refusal) => {
-                return Reading::Refused(refusal);
-            }
-            Reading::Accepted => {
-                least = minute(hours, k + 2);
-            }
-        }
-        k += 4;
-        w += 1;
+    for w in 0..n {
+        let k = at + 1 + 4 * w;
+        interval(hours, k, least)?;
+        least = minute(hours, k + 2);
     }
-    Reading::Accepted
+    Ok(())
 }
 
 // Tests the intervals of n templates that fit the file, template by template.
-fn all_intervals(hours: &[u8], n: usize) -> Reading
+fn all_intervals(hours: &[u8], n: usize) -> Result<(), Refusal>
     requires { offsets.fits hours.now 5 n ≡ true }
     ensures { TestsAll (laid hours.now 5 n) result }
 {
     let mut at = FIRST;
-    let mut i: usize = 0;
-    while i < n {
-        match intervals(hours, at) {
-            Reading::Refused(refusal) => {
-                return Reading::Refused(refusal);
-            }
-            Reading::Accepted => {
-                at = next(hours, at);
-            }
-        }
-        i += 1;
+    for _ in 0..n {
+        intervals(hours, at)?;
+        at = next(hours, at);
     }
-    Reading::Accepted
+    Ok(())
 }
 
 // Reads the hours file of a book with n templates: accepted, or the first refusal in document 02's order. Any bytes are allowed.
-pub fn read(hours: &[u8], n: usize) -> Reading
+pub fn read(hours: &[u8], n: usize) -> Result<(), Refusal>
     ensures { Reads n hours.now result }
 {
-    if !opens(hours, b"TPH") {
-        return Reading::Refused(Refusal::File);
-    }
-    if !fits(hours, n) {
-        return Reading::Refused(Refusal::File);
+    if !opens(hours, b"TPH") || !fits(hours, n) {
+        return Err(Refusal::File);
     }
     all_intervals(hours, n)
 }

@@ -7,7 +7,6 @@ ghost use Rattle.schedule.specs.Schedule.{schedule_of, Admitted};
 ghost use Rattle.schedule.specs.Shared as model;
 ghost use Rattle.schedule.specs.Offsets.{interval_at, standing, own_at, next_at};
 
-use scan::wide;
 use schedule_parts::{minute, start};
 
 // Whether the intervals at two offsets overlap: each starts before the other ends.
@@ -15,10 +14,7 @@ fn overlap(hours: &[u8], v: usize, w: usize) -> bool
     requires { (v + 4 ≤ length hours.now) × (w + 4 ≤ length hours.now) }
     ensures { result ≡ model.overlap (interval_at hours.now v) (interval_at hours.now w) }
 {
-    if minute(hours, w + 2) <= minute(hours, v) {
-        return false;
-    }
-    minute(hours, w) < minute(hours, v + 2)
+    minute(hours, v) < minute(hours, w + 2) && minute(hours, w) < minute(hours, v + 2)
 }
 
 // Whether the interval at an offset overlaps one of n that stand from another on.
@@ -26,16 +22,7 @@ fn overlaps_one(hours: &[u8], v: usize, at: usize, n: usize) -> bool
     requires { (v + 4 ≤ length hours.now) × (at + 4 * n ≤ length hours.now) }
     ensures { result ≡ any (model.overlap (interval_at hours.now v)) (standing hours.now at n) }
 {
-    let mut k = at;
-    let mut w: usize = 0;
-    while w < n {
-        if overlap(hours, v, k) {
-            return true;
-        }
-        k += 4;
-        w += 1;
-    }
-    false
+    (0..n).any(|w| overlap(hours, v, at + 4 * w))
 }
 
 // Whether an interval of the template whose count is at the one offset overlaps one of the template whose count is at the other.
@@ -43,18 +30,9 @@ fn overlaps(hours: &[u8], one: usize, other: usize) -> bool
     requires { (one < length hours.now) × (next_at hours.now one ≤ length hours.now) × (other < length hours.now) × (next_at hours.now other ≤ length hours.now) }
     ensures { result ≡ model.overlaps (own_at hours.now one) (own_at hours.now other) }
 {
-    let m = wide(hours[one]);
-    let n = wide(hours[other]);
-    let mut k = one + 1;
-    let mut v: usize = 0;
-    while v < m {
-        if overlaps_one(hours, k, other + 1, n) {
-            return true;
-        }
-        k += 4;
-        v += 1;
-    }
-    false
+    let m = usize::from(hours[one]);
+    let n = usize::from(hours[other]);
+    (0..m).any(|v| overlaps_one(hours, one + 1 + 4 * v, other + 1, n))
 }
 
 // Whether templates i and j, of n, share a minute.

@@ -1,4 +1,4 @@
-// Which templates of a book share a minute, as a table: 16 rows of 16 bytes, 1 in row i, at j, where i and j share one.
+// Which templates of a book share a minute, as a table: 16 rows of 16, true in row i, at j, where i and j share one.
 #![tactic(auto)]
 
 ghost use Rattle.std.specs.Prelude.{◌≡◌, ◌≤◌, length};
@@ -9,33 +9,20 @@ use schedule_share::share;
 
 const ROW: usize = 16;
 
-const TABLE: usize = 256;
-
-// The byte of templates i and j, of n. Of i below j alone something is said.
-fn mark(hours: &[u8], n: usize, i: usize, j: usize) -> u8
+// Whether templates i and j, of n, share a minute. Of i below j alone something is said.
+fn mark(hours: &[u8], n: usize, i: usize, j: usize) -> bool
     requires { Admitted n hours.now }
     ensures { Marks n (schedule_of n hours.now) i j result }
 {
-    if j <= i {
-        return 0;
-    }
-    if n <= j {
-        return 0;
-    }
-    if share(hours, n, i, j) {
-        return 1;
-    }
-    0
+    i < j && j < n && share(hours, n, i, j)
 }
 
 // The whole table, of n templates.
-pub fn put_table(table: &mut [u8], hours: &[u8], n: usize)
+pub fn put_table(table: &mut [bool], hours: &[u8], n: usize)
     requires { Admitted n hours.now × (n ≤ 16) × (length table.old ≡ 256) }
     ensures { Shows n (schedule_of n hours.now) table.new }
 {
-    let mut k: usize = 0;
-    while k < TABLE {
-        table[k] = mark(hours, n, k / ROW, k % ROW);
-        k += 1;
+    for (k, cell) in table.iter_mut().enumerate() {
+        *cell = mark(hours, n, k / ROW, k % ROW);
     }
 }

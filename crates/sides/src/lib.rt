@@ -12,7 +12,6 @@ ghost use Rattle.sides.specs.Sides.{facing, sides_facing, Expands, Expanded};
 ghost use Rattle.sides.specs.Reversal.{ByteIn, turned_byte, cells_facing};
 
 use inequalities::Marks;
-use scan::wide;
 use shape::{FIRST_PLACE, PLACES};
 
 // Room for the cells of four equations, and for their widths.
@@ -37,7 +36,7 @@ fn turned(sheet: &[u8], b: u8) -> u8
     }
     let f = (b - FIRST_PLACE) / PLACES;
     let c = (b - FIRST_PLACE) % PLACES;
-    let limit = parts::limit(sheet, wide(f));
+    let limit = parts::limit(sheet, usize::from(f));
     FIRST_PLACE + PLACES * f + (limit - 1 - c)
 }
 
@@ -47,9 +46,7 @@ fn put_turned(x: &mut [u8], at: usize, sheet: &[u8], piece: &[u8]) -> usize
     ensures { Puts x.old at (map (turned_byte (sheet_of sheet.now)) (reverse piece.now)) x.new result }
 {
     let mut end = at;
-    let mut i = piece.len();
-    while 0 < i {
-        i -= 1;
+    for i in (0..piece.len()).rev() {
         x[end] = turned(sheet, piece[i]);
         end += 1;
     }
@@ -62,9 +59,10 @@ fn put_cells(x: &mut [u8], at: usize, sheet: &[u8], piece: &[u8], back: bool) ->
     ensures { Puts x.old at (cells_facing (sheet_of sheet.now) back piece.now) x.new result }
 {
     if back {
-        return put_turned(x, at, sheet, piece);
+        put_turned(x, at, sheet, piece)
+    } else {
+        words::put(x, at, piece)
     }
-    words::put(x, at, piece)
 }
 
 // The cells of one side of equation p, or of that side reversed, at an offset. Returns the offset past them.
@@ -106,17 +104,14 @@ pub fn put_equations(x: &mut [u8], w: &mut [u8], sheet: &[u8], marks: Marks, bac
     requires { Admitted sheet.now × (length x.old ≡ 192) × (length w.old ≡ 8) }
     ensures { Expanded (map (sides_facing (sheet_of sheet.now) back) (asked marks (sheet_of sheet.now).equations)) x.new w.new result }
 {
-    let equations = shape::equations(sheet);
     let mut sizes = Sizes {
         cells: 0,
         widths: 0,
     };
-    let mut p: usize = 0;
-    while p < equations {
+    for p in 0..shape::equations(sheet) {
         if marks[p] {
             sizes = put_equation(x, w, sheet, p, back, sizes);
         }
-        p += 1;
     }
     sizes
 }

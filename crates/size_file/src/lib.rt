@@ -14,7 +14,7 @@ ghost use Rattle.dimacs.specs.Codes.{most_code};
 ghost use Rattle.rendering.specs.Lines.{place_lines, field_lines, part_lines, section_lines};
 ghost use Rattle.rendering.specs.Codes.{pair_lines};
 
-use codes::{IS, IS_NOT, place_code};
+use codes::{Sign, place_code};
 use shape::Section;
 use size_line::{ENDING, literal_size, literals_size, unlike_size};
 use size_location::equation_size;
@@ -26,10 +26,8 @@ fn pairs_size(first: usize, letters: usize) -> usize
     ensures { (result ≡ length (each (up_to (suc letters)) (pair_lines first letters))) × (result ≤ 1200) }
 {
     let mut sum: usize = 0;
-    let mut a: usize = 0;
-    while a <= letters {
-        sum = sum + unlike_size(first + 2 * a, first, a + 1, letters - a);
-        a += 1;
+    for a in 0..letters + 1 {
+        sum += unlike_size(first + 2 * a, first, a + 1, letters - a);
     }
     sum
 }
@@ -43,8 +41,8 @@ fn place_size(sheet: &[u8], f: usize, c: usize) -> usize
     let first = 2 * numbering::place_number(sheet, f, c, 0);
     let values = literals_size(first, letters + 1) + ENDING + pairs_size(first, letters);
     if c + 1 < shape::limit(sheet, f) {
-        let here = literal_size(place_code(sheet, f, c, letters, IS_NOT));
-        let next = literal_size(place_code(sheet, f, c + 1, letters, IS));
+        let here = literal_size(place_code(sheet, f, c, letters, Sign::IsNot));
+        let next = literal_size(place_code(sheet, f, c + 1, letters, Sign::Is));
         return values + here + next + ENDING;
     }
     values
@@ -57,10 +55,8 @@ fn field_size(sheet: &[u8], f: usize) -> usize
 {
     let limit = shape::limit(sheet, f);
     let mut sum: usize = 0;
-    let mut c: usize = 0;
-    while c < limit {
-        sum = sum + place_size(sheet, f, c);
-        c += 1;
+    for c in 0..limit {
+        sum += place_size(sheet, f, c);
     }
     sum
 }
@@ -84,10 +80,8 @@ fn section_size(sheet: &[u8], section: Section) -> usize
 {
     let parts = shape::parts(sheet, section);
     let mut sum: usize = 0;
-    let mut i: usize = 0;
-    while i < parts {
-        sum = sum + part_size(sheet, section, i);
-        i += 1;
+    for i in 0..parts {
+        sum += part_size(sheet, section, i);
     }
     sum
 }

@@ -16,33 +16,20 @@ pub fn figures(n: usize) -> usize
     requires { n < 100000 }
     ensures { (result ≡ length (decimal n)) × (result ≤ 5) }
 {
-    if n < 10 {
-        return 1;
+    match n {
+        0..=9 => 1,
+        10..=99 => 2,
+        100..=999 => 3,
+        1000..=9999 => 4,
+        _ => 5,
     }
-    if n < 100 {
-        return 2;
-    }
-    if n < 1000 {
-        return 3;
-    }
-    if n < 10000 {
-        return 4;
-    }
-    5
 }
 
 // How many of the n numbers from `first` on are at least `power`.
 fn reaching(power: usize, first: usize, n: usize) -> usize
     ensures { (result ≡ reached power first n) × (result ≤ n) }
 {
-    if first >= power {
-        return n;
-    }
-    let below = power - first;
-    if n <= below {
-        return 0;
-    }
-    n - below
+    n.saturating_sub(power.saturating_sub(first))
 }
 
 // How many figures the n numbers from `first` on have together: one each, and one more for each power of ten that a number reaches.

@@ -13,7 +13,7 @@ ghost use Rattle.formula.specs.Count as count;
 ghost use Rattle.literals.specs.Name.{line_of};
 ghost use Rattle.sums.specs.Lines.{step_lines, bound_lines, constraint_lines};
 
-use codes::{IS, sum_code};
+use codes::{Sign, sum_code};
 use literals::{longer, shorter};
 use numbering::magnitude;
 use size_line::{ENDING, literal_size, literals_size};
@@ -56,14 +56,12 @@ fn step_size(sheet: &[u8], r: usize, k: usize) -> usize
     ensures { (result ≡ length (step_lines (sheet_of sheet.now) r k)) × (result ≤ 60000) }
 {
     let limit = shape::limit(sheet, k);
-    let here = sum_code(sheet, r, k, numbering::least(sheet, r, k), IS);
-    let next = sum_code(sheet, r, k + 1, numbering::least(sheet, r, k + 1), IS);
+    let here = sum_code(sheet, r, k, numbering::least(sheet, r, k), Sign::Is);
+    let next = sum_code(sheet, r, k + 1, numbering::least(sheet, r, k + 1), Sign::Is);
     let n = numbering::spread(sheet, r, k) + 1;
     let mut sum: usize = 0;
-    let mut d: usize = 0;
-    while d <= limit {
-        sum = sum + length_size(sheet, r, k, d, here, next, n);
-        d += 1;
+    for d in 0..limit + 1 {
+        sum += length_size(sheet, r, k, d, here, next, n);
     }
     sum
 }
@@ -75,10 +73,8 @@ fn steps_size(sheet: &[u8], r: usize) -> usize
 {
     let fields = shape::fields(sheet);
     let mut sum: usize = 0;
-    let mut k: usize = 0;
-    while k < fields {
-        sum = sum + step_size(sheet, r, k);
-        k += 1;
+    for k in 0..fields {
+        sum += step_size(sheet, r, k);
     }
     sum
 }
@@ -89,7 +85,13 @@ fn bounds_size(sheet: &[u8], r: usize) -> usize
     ensures { (result ≡ length (bound_lines (sheet_of sheet.now) r)) × (result ≤ 2000) }
 {
     let fields = shape::fields(sheet);
-    let first = sum_code(sheet, r, fields, numbering::least(sheet, r, fields), IS);
+    let first = sum_code(
+        sheet,
+        r,
+        fields,
+        numbering::least(sheet, r, fields),
+        Sign::Is,
+    );
     let within = numbering::within(sheet, r);
     let over = numbering::spread(sheet, r, fields) + 1 - within;
     over * ENDING + literals_size(first + 2 * within + 1, over)
@@ -100,6 +102,6 @@ pub fn constraint_size(sheet: &[u8], r: usize) -> usize
     requires { Admitted sheet.now × (r < length (sheet_of sheet.now).constraints) }
     ensures { (result ≡ length (constraint_lines (sheet_of sheet.now) r)) × (result ≤ 400000) }
 {
-    let zero = literal_size(sum_code(sheet, r, 0, 0, IS)) + ENDING;
+    let zero = literal_size(sum_code(sheet, r, 0, 0, Sign::Is)) + ENDING;
     zero + steps_size(sheet, r) + bounds_size(sheet, r)
 }

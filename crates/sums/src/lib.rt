@@ -14,7 +14,7 @@ ghost use Rattle.dimacs.specs.Codes.{most_code, large_code};
 ghost use Rattle.sums.specs.Lines.{step_lines, bound_lines, constraint_lines};
 ghost use Rattle.sums.specs.Codes.{add_line, Added};
 
-use codes::{IS, sum_code};
+use codes::{Sign, sum_code};
 use dimacs::clause_line;
 use literals::{ClauseId, put_clause};
 
@@ -76,13 +76,11 @@ fn put_sum(
     ensures { Puts buf.old at (each (up_to (suc limit)) (add_line here blank stride limit first low c n)) buf.new result }
 {
     let mut past = at;
-    let mut d: usize = 0;
-    while d <= limit {
+    for d in 0..limit + 1 {
         let short = shorter(blank, stride, d);
         let long = longer(blank, stride, limit, d);
         let next = next_code(first, low, c, n, d);
         past = clause_line(buf, past, &[here, short, long, next]);
-        d += 1;
     }
     past
 }
@@ -96,14 +94,13 @@ fn put_step(buf: &mut [u8], at: usize, sheet: &[u8], r: usize, k: usize) -> usiz
     let stride = 2 * (shape::letters(sheet) + 1);
     let blank = first_blank(sheet, k);
     let low = numbering::least(sheet, r, k);
-    let here = sum_code(sheet, r, k, low, IS);
+    let here = sum_code(sheet, r, k, low, Sign::Is);
     let next = numbering::least(sheet, r, k + 1);
-    let first = sum_code(sheet, r, k + 1, next, IS);
+    let first = sum_code(sheet, r, k + 1, next, Sign::Is);
     let c = parts::coefficient(sheet, r, k);
     let last = numbering::spread(sheet, r, k);
     let mut past = at;
-    let mut m: usize = 0;
-    while m <= last {
+    for m in 0..last + 1 {
         past = put_sum(
             buf,
             past,
@@ -116,7 +113,6 @@ fn put_step(buf: &mut [u8], at: usize, sheet: &[u8], r: usize, k: usize) -> usiz
             c,
             low + (m as i16),
         );
-        m += 1;
     }
     past
 }
@@ -128,10 +124,8 @@ fn put_steps(buf: &mut [u8], at: usize, sheet: &[u8], r: usize) -> usize
 {
     let fields = shape::fields(sheet);
     let mut past = at;
-    let mut k: usize = 0;
-    while k < fields {
+    for k in 0..fields {
         past = put_step(buf, past, sheet, r, k);
-        k += 1;
     }
     past
 }
@@ -142,14 +136,18 @@ fn put_bounds(buf: &mut [u8], at: usize, sheet: &[u8], r: usize) -> usize
     ensures { Puts buf.old at (bound_lines (sheet_of sheet.now) r) buf.new result }
 {
     let fields = shape::fields(sheet);
-    let first = sum_code(sheet, r, fields, numbering::least(sheet, r, fields), IS);
+    let first = sum_code(
+        sheet,
+        r,
+        fields,
+        numbering::least(sheet, r, fields),
+        Sign::Is,
+    );
     let within = numbering::within(sheet, r);
     let over = numbering::spread(sheet, r, fields) + 1 - within;
     let mut past = at;
-    let mut n: usize = 0;
-    while n < over {
+    for n in 0..over {
         past = clause_line(buf, past, &[first + 2 * within + 1 + 2 * n]);
-        n += 1;
     }
     past
 }

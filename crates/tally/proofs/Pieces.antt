@@ -16,8 +16,8 @@ use Rattle.model.proofs.Lists.{by_test}
 use Rattle.model.proofs.Spans.{before_end}
 use Rattle.calls.proofs.Splitting.{split_piece}
 use Rattle.tally.specs.declared.Tally.{Tally}
-use Rattle.numerals.specs.declared.Piece.TheVariants as piece
-use Rattle.tally.specs.declared.Lines.TheVariants.{Known, Unknown}
+use Rattle.numerals.specs.declared.Number.TheVariants.{Plus, Minus}
+use Rattle.std.specs.Prelude.{Some, None}
 use Rattle.tally.specs.Tally.{noted, marked, is_pos, after_number, after_numbers, value_pieces, ReadValues}
 use Rattle.numerals.specs.Said.{Said}
 use Rattle.tally.proofs.Marks.{marked-long}
@@ -67,7 +67,7 @@ pub noted-none : (m : List ℕ) (t : Tally) (line : List ℕ) → Noted m t line
 noted-none m t line = record { long = refl; form = refl; state = refl }
 
 module _ (m : List ℕ) (t : Tally) (line : List ℕ) (at : ℕ) (k : List ℕ) (u : Tally) (w : Noted m t line at k u) where
-  pub noted-all : length line < at → ReadValues m t line (Known u) k
+  pub noted-all : length line < at → ReadValues m t line (Some u) k
   unfolding split numbers_from after_numbers all
   noted-all h =
       let n = length-append line (32 ∷ []) in
@@ -77,7 +77,7 @@ module _ (m : List ℕ) (t : Tally) (line : List ℕ) (at : ℕ) (k : List ℕ) 
       )
 
   module _ (end : ℕ) (q : PieceAt line at end) where
-    pub noted-unknown : Said (take (end - at) (drop at line)) piece.Unknown → ReadValues m t line Unknown k
+    pub noted-unknown : Said (take (end - at) (drop at line)) None → ReadValues m t line None k
     unfolding all
     noted-unknown other = w.form ∙ ap (all is_number) q.pieces_are ∙ rw other
 
@@ -95,11 +95,11 @@ module _ (m : List ℕ) (t : Tally) (line : List ℕ) (at : ℕ) (k : List ℕ) 
           ∙ rw (eu, ek);
     }
 
-    pub noted_plus : (n : ℕ) → Said (take (end - at) (drop at line)) (piece.Plus n)
+    pub noted_plus : (n : ℕ) → Said (take (end - at) (drop at line)) (Some (Plus n))
         → (k' : List ℕ) (u' : Tally) → u' ≡ noted k u n → k' ≡ marked k n true → Noted m t line (end + 1) k' u'
     noted_plus n said = noted_one (pos n) said.0 said.1
 
-    pub noted_minus : (n : ℕ) → Said (take (end - at) (drop at line)) (piece.Minus n)
+    pub noted_minus : (n : ℕ) → Said (take (end - at) (drop at line)) (Some (Minus n))
         → (k' : List ℕ) (u' : Tally) → u' ≡ noted k u n → k' ≡ marked k n false → Noted m t line (end + 1) k' u'
     noted_minus zero said = absurd (let h = said.1 in omega arith)
     noted_minus (suc n) said = noted_one (negsuc n) said.0 said.2

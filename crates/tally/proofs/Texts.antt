@@ -13,8 +13,7 @@ use Rattle.model.proofs.Lists.{or_right}
 use Rattle.model.proofs.Spans.{span-short}
 use Rattle.calls.proofs.Splitting.{split-first}
 use Rattle.tally.specs.declared.Tally.{Tally}
-use Rattle.tally.specs.declared.Lines.{Lines}
-use Rattle.tally.specs.declared.Lines.TheVariants.{Known, Unknown}
+use Rattle.std.specs.Prelude.{Option, Some, None}
 use Rattle.tally.specs.Tally.{nothing, after_line, after_lines, value_pieces, ReadValues, ReadLine, ReadLines}
 use Rattle.numerals.proofs.Firsts.{starts, starts_not, alone_not}
 use Rattle.tally.proofs.Pieces.{piece_at}
@@ -60,21 +59,21 @@ line_other l s c end e f = no_kind l s c (no_value l end e f)
 
 module _ (m : List ℕ) (t : Tally) (l : List ℕ) where
   pub line_status : status_line l ≡ true → (a : Bool) → a ≡ (t.again || t.status)
-      → ReadLine m t l (Known (record { status = true; again = a; early = t.early; after = t.after; above = t.above; twice = t.twice })) m
+      → ReadLine m t l (Some (record { status = true; again = a; early = t.early; after = t.after; above = t.above; twice = t.twice })) m
   unfolding known after_line
   line_status s a e = (rw s (or_right (comment l) refl), rw (s, e))
 
-  pub line-comment : status_line l ≡ false → 1 ≤ length l → get_or l 0 0 ≡ 99 → ReadLine m t l (Known t) m
+  pub line-comment : status_line l ≡ false → 1 ≤ length l → get_or l 0 0 ≡ 99 → ReadLine m t l (Some t) m
   unfolding known after_line
   line-comment s h f = (rw (starts 99 l h f), rw (s, no_value l (0 + span 32 l) refl (λ g k. omega arith)))
 
   module _ (s : status_line l ≡ false) (h : 1 ≤ length l) (f : get_or l 0 0 ≡ 118) (end : ℕ) (e : end ≡ 0 + span 32 l) (one : end ≡ 1) where
-    pub line-values : (b : Bool) → b ≡ (t.early || not t.status) → (r : Lines) (m' : List ℕ)
+    pub line-values : (b : Bool) → b ≡ (t.early || not t.status) → (r : Option Tally) (m' : List ℕ)
         → ReadValues m (record { status = t.status; again = t.again; early = b; after = t.after; above = t.above; twice = t.twice }) l r m'
         → ReadLine m t l r m'
     unfolding known after_line line_numbers
-    line-values b g Unknown m' w = no_kind l s (λ k. omega arith) (v_line_lem l end e h f one ∙ w)
-    line-values b g (Known u) m' w =
+    line-values b g None m' w = no_kind l s (λ k. omega arith) (v_line_lem l end e h f one ∙ w)
+    line-values b g (Some u) m' w =
         let v = v_line_lem l end e h f one ∙ w.0 in
         (rw (s, v) (or_right (comment l) refl), rw (s, v) (w.1 ∙ rw g))
 
@@ -88,7 +87,7 @@ pub passed_none : (m text : List ℕ) → Passed m text 0 m nothing
 passed_none m text = record { long = refl; form = refl; state = refl }
 
 module _ (m text : List ℕ) (at : ℕ) (k : List ℕ) (u : Tally) (w : Passed m text at k u) where
-  pub passed_all : length text ≤ at → ReadLines m text (Known u) k
+  pub passed_all : length text ≤ at → ReadLines m text (Some u) k
   unfolding split all after_lines
   passed_all h =
       let past = drop_of_length-le text h in
@@ -104,11 +103,11 @@ module _ (m text : List ℕ) (at : ℕ) (k : List ℕ) (u : Tally) (w : Passed m
         ∙ ap (λ z. take (span 10 (drop at text)) (drop at text) ∷ lines z) (drop-drop (suc (span 10 (drop at text))) at text ∙ ap (λ j. drop j text) p)
         ∙ ap (λ j. take j (drop at text) ∷ lines (drop (end + 1) text)) n
 
-    pub passed_unknown : (k' : List ℕ) → ReadLine k u (take (end - at) (drop at text)) Unknown k' → ReadLines m text Unknown k'
+    pub passed_unknown : (k' : List ℕ) → ReadLine k u (take (end - at) (drop at text)) None k' → ReadLines m text None k'
     unfolding all
     passed_unknown k' other = w.form ∙ ap (all known) line_first ∙ rw other
 
-    pub passed_more : (k' : List ℕ) (u' : Tally) → length k' ≡ length k → ReadLine k u (take (end - at) (drop at text)) (Known u') k'
+    pub passed_more : (k' : List ℕ) (u' : Tally) → length k' ≡ length k → ReadLine k u (take (end - at) (drop at text)) (Some u') k'
         → Passed m text (end + 1) k' u'
     unfolding all after_lines
     passed_more k' u' n read = record {

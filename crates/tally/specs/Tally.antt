@@ -1,11 +1,9 @@
 -- What the text's lines and numbers come to, one after another.
-use Rattle.std.specs.Prelude.{◌≡◌, Bool, true, false, not, ◌||◌, List, [], ◌∷◌, ℕ, leb, eqb, ℤ, pos, negsuc, nat_abs, length, get_or, set, drop}
+use Rattle.std.specs.Prelude.{◌≡◌, Bool, true, false, not, ◌||◌, List, [], ◌∷◌, ℕ, leb, eqb, ℤ, pos, negsuc, nat_abs, length, get_or, set, drop, Option, Some, None}
 use Rattle.model.specs.Lists.{pick, all}
 use Rattle.formula.specs.Dimacs.{numbers}
 use Rattle.calls.specs.Reply.{split, lines, spaced, is_number, status_line, value_line, known, line_numbers}
 use Rattle.tally.specs.declared.Tally.{Tally}
-use Rattle.tally.specs.declared.Lines.{Lines}
-use Rattle.tally.specs.declared.Lines.TheVariants.{Known, Unknown}
 
 -- A number's mark: 0 where it is not listed, 1 where it is listed without a minus, else 2.
 abbrev pub is_marked : List ℕ → ℕ → Bool
@@ -70,18 +68,18 @@ abbrev pub value_pieces : List ℕ → List (List ℕ)
 value_pieces l = split 32 (drop 2 (spaced l))
 
 -- What the functions answer that read the numbers of a v line, a line, and all lines: of marks before and after, and the tally before.
-abbrev pub ReadValues : List ℕ → Tally → List ℕ → Lines → List ℕ → Type 0
-ReadValues m t l Unknown m' = all is_number (value_pieces l) ≡ false
-ReadValues m t l (Known u) m' =
+abbrev pub ReadValues : List ℕ → Tally → List ℕ → Option Tally → List ℕ → Type 0
+ReadValues m t l None m' = all is_number (value_pieces l) ≡ false
+ReadValues m t l (Some u) m' =
     (all is_number (value_pieces l) ≡ true)
     × (record { tally = u; marks = m' } ≡ after_numbers (record { tally = t; marks = m }) (numbers (drop 2 (spaced l))))
 
-abbrev pub ReadLine : List ℕ → Tally → List ℕ → Lines → List ℕ → Type 0
-ReadLine m t l Unknown m' = known l ≡ false
-ReadLine m t l (Known u) m' =
+abbrev pub ReadLine : List ℕ → Tally → List ℕ → Option Tally → List ℕ → Type 0
+ReadLine m t l None m' = known l ≡ false
+ReadLine m t l (Some u) m' =
     (known l ≡ true) × (record { tally = u; marks = m' } ≡ after_line (record { tally = t; marks = m }) l)
 
-abbrev pub ReadLines : List ℕ → List ℕ → Lines → List ℕ → Type 0
-ReadLines m text Unknown m' = all known (lines text) ≡ false
-ReadLines m text (Known u) m' =
+abbrev pub ReadLines : List ℕ → List ℕ → Option Tally → List ℕ → Type 0
+ReadLines m text None m' = all known (lines text) ≡ false
+ReadLines m text (Some u) m' =
     (all known (lines text) ≡ true) × (record { tally = u; marks = m' } ≡ after_lines (record { tally = nothing; marks = m }) (lines text))

@@ -5,7 +5,7 @@
 ghost use Rattle.std.specs.Prelude.{◌≡◌, ◌||◌, ◌<◌, ◌≤◌, length};
 ghost use Rattle.tally.specs.Tally.{mark_of, noted, marked, ReadValues, ReadLine, ReadLines};
 
-use numerals::{Piece, read_number};
+use numerals::{Number, read_number};
 use scan::find;
 
 // The line end, and the space between numbers.
@@ -22,7 +22,7 @@ const MINUS: u8 = 2;
 
 // What was met so far: an s line, a second one, a v line before any s line, a number after a 0, a number that has no mark, a number met
 // before.
-#[derive(Clone, Copy)]
+#[derive(Clone, Copy, Debug, PartialEq, Eq)]
 pub struct Tally {
     pub status: bool,
     pub again: bool,
@@ -32,34 +32,17 @@ pub struct Tally {
     pub twice: bool,
 }
 
-// What lines come to, or that one of them has no known form.
-#[derive(Clone, Copy)]
-pub enum Lines {
-    Known(Tally),
-    Unknown,
-}
-
-// One of two conditions, as a function: a caller that wrote `||` would branch, and its proof would need a case for each way.
-fn either(a: bool, b: bool) -> bool
-    ensures { result ≡ (a || b) }
-{
-    if a {
-        return true;
-    }
-    b
-}
-
 // The mark of a number that had the mark `was`: once listed without a minus it stays so.
 fn mark(was: u8, plus: bool) -> u8
     ensures { result ≡ mark_of was plus }
 {
     if plus {
-        return PLUS;
+        PLUS
+    } else if was == UNLISTED {
+        MINUS
+    } else {
+        was
     }
-    if was == UNLISTED {
-        return MINUS;
-    }
-    was
 }
 
 // Notes a number, with a minus or not, and marks it.
@@ -67,32 +50,25 @@ fn note(marks: &mut [u8], tally: Tally, n: usize, plus: bool) -> Tally
     requires { 0 < length marks.old }
     ensures { (result ≡ noted marks.old tally n) × (marks.new ≡ marked marks.old n plus) }
 {
-    let after = either(tally.after, marks[0] != UNLISTED);
+    let after = tally.after | (marks[0] != UNLISTED);
     if n >= marks.len() {
         return Tally {
-            status: tally.status,
-            again: tally.again,
-            early: tally.early,
-            after: after,
+            after,
             above: true,
-            twice: tally.twice,
+            ..tally
         };
     }
     let was = marks[n];
-    let now = mark(was, plus);
-    marks[n] = now;
+    marks[n] = mark(was, plus);
     Tally {
-        status: tally.status,
-        again: tally.again,
-        early: tally.early,
-        after: after,
-        above: tally.above,
-        twice: either(tally.twice, was != UNLISTED),
+        after,
+        twice: tally.twice | (was != UNLISTED),
+        ..tally
     }
 }
 
 // Notes the numbers of a v line.
-fn read_values(marks: &mut [u8], tally: Tally, line: &[u8]) -> Lines
+fn read_values(marks: &mut [u8], tally: Tally, line: &[u8]) -> Option<Tally>
     requires { (0 < length marks.old) × (length line.now ≤ 65536) }
     ensures { ReadValues marks.old tally line.now result marks.new }
 {
@@ -100,61 +76,46 @@ fn read_values(marks: &mut [u8], tally: Tally, line: &[u8]) -> Lines
     let mut at: usize = 2;
     while at <= line.len() {
         let end = find(line, at, SPACE);
-        match read_number(&line[at..end]) {
-            Piece::Unknown => {
-                return Lines::Unknown;
-            }
-            Piece::Plus(n) => {
-                sum = note(marks, sum, n, true);
-            }
-            Piece::Minus(n) => {
-                sum = note(marks, sum, n, false);
-            }
-        }
+        sum = match read_number(&line[at..end])? {
+            Number::Plus(n) => note(marks, sum, n, true),
+            Number::Minus(n) => note(marks, sum, n, false),
+        };
         at = end + 1;
     }
-    Lines::Known(sum)
+    Some(sum)
 }
 
 // Notes a line.
-fn read_line(marks: &mut [u8], tally: Tally, line: &[u8]) -> Lines
+fn read_line(marks: &mut [u8], tally: Tally, line: &[u8]) -> Option<Tally>
     requires { (0 < length marks.old) × (length line.now ≤ 65536) }
     ensures { ReadLine marks.old tally line.now result marks.new }
 {
-    if scan::same(line, b"s SATISFIABLE") {
-        return Lines::Known(Tally {
+    if line == b"s SATISFIABLE".as_slice() {
+        return Some(Tally {
             status: true,
-            again: either(tally.again, tally.status),
-            early: tally.early,
-            after: tally.after,
-            above: tally.above,
-            twice: tally.twice,
+            again: tally.again | tally.status,
+            ..tally
         });
     }
-    let len = line.len();
-    if len == 0 {
-        return Lines::Unknown;
+    if line.is_empty() {
+        return None;
     }
     if line[0] == b'c' {
-        return Lines::Known(tally);
+        return Some(tally);
     }
     let first = find(line, 0, SPACE);
     if line[0] != b'v' || first != 1 {
-        return Lines::Unknown;
+        return None;
     }
     let found = Tally {
-        status: tally.status,
-        again: tally.again,
-        early: either(tally.early, !tally.status),
-        after: tally.after,
-        above: tally.above,
-        twice: tally.twice,
+        early: tally.early | !tally.status,
+        ..tally
     };
     read_values(marks, found, line)
 }
 
 // Notes a text's lines.
-pub fn read_lines(marks: &mut [u8], text: &[u8]) -> Lines
+pub fn read_lines(marks: &mut [u8], text: &[u8]) -> Option<Tally>
     requires { (0 < length marks.old) × (length text.now ≤ 65536) }
     ensures { ReadLines marks.old text.now result marks.new }
 {
@@ -169,15 +130,8 @@ pub fn read_lines(marks: &mut [u8], text: &[u8]) -> Lines
     let mut at: usize = 0;
     while at < text.len() {
         let end = find(text, at, LINE_END);
-        match read_line(marks, sum, &text[at..end]) {
-            Lines::Unknown => {
-                return Lines::Unknown;
-            }
-            Lines::Known(next) => {
-                sum = next;
-            }
-        }
+        sum = read_line(marks, sum, &text[at..end])?;
         at = end + 1;
     }
-    Lines::Known(sum)
+    Some(sum)
 }

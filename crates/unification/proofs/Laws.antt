@@ -1,18 +1,19 @@
 -- Laws of renamings, of the values of cells, and of unification: what unification answers is the substitution under a renaming that makes the
 -- two values the same, and no renaming that does so is lost. They need no invariant on the substitution. Assumes nothing.
-use mathlib.Core.Path.{◌≡◌, refl, sym, ap, fun_ext, ◌∙◌}
+use mathlib.Core.Path.{◌≡◌, refl, sym, ap, subst, fun_ext, ◌∙◌}
 use mathlib.Core.Bool.{Bool, true, false}
 use mathlib.Core.List.{List, [], ◌∷◌, map, map-map, map-id}
+use Rattle.std.specs.Prelude.{Option, Some, None}
 use Prim.Native.Nat.{ℕ, zero, suc, ◌-◌, ◌/◌, ◌%◌, ◌<◌, ◌≤◌}
 use native.Mathlib.Omega.{arith}
 use lib.ListN.{get_or}
+use Rattle.std.proofs.lemmas.Option.{none-some, same_Some}
 use lib.Dec.{ltb, eqb}
 use borrow.Author.Tests.{ltb-true, ltb-false, eqb-true, eqb-false, eq-eqb, ne_eqb, lt-ltb, le-ltb}
 use Rattle.model.specs.Lists.{pick}
-use Rattle.model.proofs.Lists.{never, by_test}
+use Rattle.model.proofs.Lists.{by_test}
 use Rattle.fields.specs.declared.Field.{Field}
-use Rattle.unification.specs.declared.Found.{Found}
-use Rattle.unification.specs.Names.{repl, settle, map_field, app, place_of, value_of, unify_of, found, failed, Below, Inside, Refining}
+use Rattle.unification.specs.Names.{repl, settle, map_field, app, place_of, value_of, unify_of, Below, Inside, Refining}
 
 -- what holds of both arms holds of the one that is picked
 pub pick_ind : {A : Type 0} (P : A → Type 0) (b : Bool) {x y : A} → (b ≡ true → P x) → (b ≡ false → P y) → P (pick b x y)
@@ -118,7 +119,7 @@ pub value_renamed : {g h : List Field} (k : Renamed g h) (u : ℕ) → value_of 
 value_renamed {g} k u = rw k.is (value-app k.by k.refines g u)
 
 -- the cases of unification: the two values are the same, or are two letters that differ, or one is a name and becomes the other
-pub unify_cases : (P : Found → Type 0) (g : List Field) (u v : ℕ) → (u ≡ v → P (found g)) → ((u ≡ v → ⊥) → u < 8 → v < 8 → P (failed g)) → ((u ≡ v → ⊥) → 8 ≤ u → P (found (app (repl u v) g))) → ((v ≡ u → ⊥) → 8 ≤ v → P (found (app (repl v u) g))) → P (unify_of g u v)
+pub unify_cases : (P : Option (List Field) → Type 0) (g : List Field) (u v : ℕ) → (u ≡ v → P (Some g)) → ((u ≡ v → ⊥) → u < 8 → v < 8 → P None) → ((u ≡ v → ⊥) → 8 ≤ u → P (Some (app (repl u v) g))) → ((v ≡ u → ⊥) → 8 ≤ v → P (Some (app (repl v u) g))) → P (unify_of g u v)
 unfolding unify_of
 unify_cases P g u v same differ left right =
     pick_ind P (eqb u v) (λ t. same (eqb-true u v t))
@@ -126,6 +127,15 @@ unify_cases P g u v same differ left right =
     pick_ind P (ltb u 8)
     (λ a. pick_ind P (ltb v 8) (λ b. differ n (ltb-true u 8 a) (ltb-true v 8 b)) (λ b. right (λ e. n (sym e)) (ltb-false v 8 b)))
     (λ a. left n (ltb-false u 8 a)))
+
+-- what holds of g, and of g under the replacement of one of the two values by the other, holds of what unification answers
+pub unified_by : (P : List Field → Type 0) (g : List Field) (u v : ℕ) → (u ≡ v → P g) → ((u ≡ v → ⊥) → 8 ≤ u → P (app (repl u v) g)) → ((v ≡ u → ⊥) → 8 ≤ v → P (app (repl v u) g)) → (h : List Field) → unify_of g u v ≡ Some h → P h
+unified_by P g u v same left right =
+    unify_cases (λ r. (h : List Field) → r ≡ Some h → P h) g u v
+    (λ k h e. subst P (same_Some _ _ e) (same k))
+    (λ d a b h e. absurd (none-some h e))
+    (λ d k h e. subst P (same_Some _ _ e) (left d k))
+    (λ d k h e. subst P (same_Some _ _ e) (right d k))
 
 -- unification is sound: what it answers is g under a renaming that makes u and v the same
 pub record Unified (g : List Field) (u v : ℕ) (h : List Field) : Type 0 where
@@ -141,14 +151,13 @@ repl_unifies g u v n m d h = record {
 exchanged : {g h : List Field} {u v : ℕ} → Unified g u v h → Unified g v u h
 exchanged r = record { how = r.how; joins = sym r.joins }
 
-pub unify_sound : (g : List Field) (u v : ℕ) → (u ≡ 255 → ⊥) → (v ≡ 255 → ⊥) → (unify_of g u v).ok ≡ true → Unified g u v (unify_of g u v).substitution
+pub unify_sound : (g : List Field) (u v : ℕ) → (u ≡ 255 → ⊥) → (v ≡ 255 → ⊥) → (h : List Field) → unify_of g u v ≡ Some h → Unified g u v h
 unfolding unchanged
 unify_sound g u v n m =
-    unify_cases (λ r. r.ok ≡ true → Unified g u v r.substitution) g u v
-    (λ e _. record { how = unchanged g; joins = e })
-    (λ d a b. never)
-    (λ d h _. repl_unifies g u v n m d h)
-    (λ d h _. exchanged (repl_unifies g v u m n d h))
+    unified_by (Unified g u v) g u v
+    (λ e. record { how = unchanged g; joins = e })
+    (λ d h. repl_unifies g u v n m d h)
+    (λ d h. exchanged (repl_unifies g v u m n d h))
 
 -- a renaming that makes u and v the same does not see that u has become v
 repl_absorbed : (s : ℕ → ℕ) (u v : ℕ) → s u ≡ s v → (g : List Field) → app s (app (repl u v) g) ≡ app s g
@@ -156,22 +165,21 @@ repl_absorbed s u v e g =
     app-app (repl u v) s g ∙ ap (λ (r : ℕ → ℕ). app r g) (fun_ext (λ x. pick_ind (λ z. s z ≡ s x) (eqb x u) (λ t. sym e ∙ ap s (sym (eqb-true x u t))) (λ t. refl)))
 
 -- unification is complete: where a renaming makes u and v the same, it succeeds, and that renaming does not see what it did
-pub unify_complete : (g : List Field) (u v : ℕ) (s : ℕ → ℕ) → Refining s → s u ≡ s v → ((unify_of g u v).ok ≡ true) × (app s (unify_of g u v).substitution ≡ app s g)
+pub unify_complete : (g : List Field) (u v : ℕ) (s : ℕ → ℕ) → Refining s → s u ≡ s v → (h : List Field) × (unify_of g u v ≡ Some h) × (app s h ≡ app s g)
 unify_complete g u v s p e =
-    unify_cases (λ r. (r.ok ≡ true) × (app s r.substitution ≡ app s g)) g u v
-    (λ _. (refl, refl))
+    unify_cases (λ r. (h : List Field) × (r ≡ Some h) × (app s h ≡ app s g)) g u v
+    (λ _. (g, refl, refl))
     (λ d a b. absurd (d (sym (p.letter u a) ∙ e ∙ p.letter v b)))
-    (λ d h. (refl, repl_absorbed s u v e g))
-    (λ d h. (refl, repl_absorbed s v u (sym e) g))
+    (λ d h. (app (repl u v) g, refl, repl_absorbed s u v e g))
+    (λ d h. (app (repl v u) g, refl, repl_absorbed s v u (sym e) g))
 
 -- letters come from nowhere else: where u and v are below l, so is what unification answers
 inside-repl : (l : ℕ) (g : List Field) (u v : ℕ) → Inside l g → (u ≡ 255 → ⊥) → (v ≡ 255 → ⊥) → Below l v → 8 ≤ u → Inside l (app (repl u v) g)
 inside-repl l g u v ins n m b h w k = rw (value-app (repl u v) (repl_refines u v h n m) g w) (pick_ind (Below l) (eqb (value_of g w) u) (λ t. b) (λ t. ins w k))
 
-pub unify_inside : (l : ℕ) (g : List Field) (u v : ℕ) → Inside l g → (u ≡ 255 → ⊥) → (v ≡ 255 → ⊥) → Below l u → Below l v → Inside l (unify_of g u v).substitution
+pub unify_inside : (l : ℕ) (g : List Field) (u v : ℕ) → Inside l g → (u ≡ 255 → ⊥) → (v ≡ 255 → ⊥) → Below l u → Below l v → (h : List Field) → unify_of g u v ≡ Some h → Inside l h
 unify_inside l g u v ins n m p q =
-    unify_cases (λ r. Inside l r.substitution) g u v
+    unified_by (Inside l) g u v
     (λ _. ins)
-    (λ d a b. ins)
     (λ d h. inside-repl l g u v ins n m q h)
     (λ d h. inside-repl l g v u ins m n p h)

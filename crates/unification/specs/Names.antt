@@ -1,11 +1,8 @@
 -- Substitutions with names, what cells hold under them, and unification of two values.
-use Rattle.std.specs.Prelude.{◌≡◌, ℕ, ◌-◌, ◌/◌, ◌%◌, ◌<◌, ◌≤◌, true, false, List, [], map, get_or, ltb, eqb}
+use Rattle.std.specs.Prelude.{◌≡◌, ℕ, ◌-◌, ◌/◌, ◌%◌, ◌<◌, ◌≤◌, Option, Some, None, List, [], map, get_or, ltb, eqb}
 use Rattle.model.specs.Lists.{pick}
 use Rattle.fields.specs.declared.Field.{Field}
 use Rattle.fields.specs.Memory.{field}
-use Rattle.unification.specs.declared.Found.{Found}
-use Rattle.unification.specs.declared.Renaming.{Renaming}
-use Rattle.unification.specs.declared.Renaming.TheVariants.{Replace, Settle}
 
 -- x, or v where x is u
 abbrev pub repl : ℕ → ℕ → ℕ → ℕ
@@ -15,9 +12,9 @@ repl u v x = pick (eqb x u) v x
 abbrev pub settle : ℕ → ℕ
 settle x = pick (ltb x 8) x (pick (eqb x 255) 255 0)
 
-abbrev pub renames : Renaming → ℕ → ℕ
-renames (Replace u v) x = repl u v x
-renames Settle x = settle x
+-- s is what calls with the results `post` compute
+abbrev pub Computes : (ℕ → ℕ → Type 0) → (ℕ → ℕ) → Type 0
+Computes post s = (x y : ℕ) → post x y → y ≡ s x
 
 -- s applied to every place
 abbrev pub map_field : (ℕ → ℕ) → Field → Field
@@ -37,18 +34,12 @@ place_of g f c = get_or (field g f).letters c 0
 unfoldable pub value_of : List Field → ℕ → ℕ
 value_of g u = pick (ltb u 8) u (place_of g ((u - 8) / 8) ((u - 8) % 8))
 
-abbrev pub found : List Field → Found
-found g = record { ok = true; substitution = g }
-
-abbrev pub failed : List Field → Found
-failed g = record { ok = false; substitution = g }
-
--- the most general way to make u and v, letters or names, the same
-unfoldable pub unify_of : List Field → ℕ → ℕ → Found
+-- the most general way to make u and v, letters or names, the same; none where they are two letters that differ
+unfoldable pub unify_of : List Field → ℕ → ℕ → Option (List Field)
 unify_of g u v =
-    pick (eqb u v) (found g)
-    (pick (ltb u 8) (pick (ltb v 8) (failed g) (found (app (repl v u) g)))
-    (found (app (repl u v) g)))
+    pick (eqb u v) (Some g)
+    (pick (ltb u 8) (pick (ltb v 8) None (Some (app (repl v u) g)))
+    (Some (app (repl u v) g)))
 
 -- x is a letter below l, or no letter
 abbrev pub Below : ℕ → ℕ → Type 0

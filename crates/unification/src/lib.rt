@@ -5,90 +5,64 @@
 // a place, as in `shape`.
 #![tactic(auto)]
 
-ghost use Rattle.std.specs.Prelude.{◌≡◌, ◌<◌, length};
-ghost use Rattle.unification.specs.Names.{settle, renames, map_field, app, value_of, unify_of};
+ghost use Rattle.std.specs.Prelude.{◌≡◌, ℕ, ◌<◌};
+ghost use Rattle.unification.specs.Names.{repl, settle, map_field, app, Computes, value_of, unify_of};
 
 use fields::{FIELDS, Field, PAST, PLACES, Substitution};
 use shape::FIRST_PLACE;
-
-// An answer of the search: a substitution, where ok.
-#[derive(Clone, Copy)]
-pub struct Found {
-    pub ok: bool,
-    pub substitution: Substitution,
-}
-
-// What is done to every place: one name becomes another name or a letter, or every name that is left becomes the lowest letter.
-#[derive(Clone, Copy)]
-pub enum Renaming {
-    Replace(u8, u8),
-    Settle,
-}
-
-// What the types say of a field and of a substitution, for the proofs of functions that call these: they are handed back unchanged.
-fn eight(t: Field) -> Field
-    ensures { (result ≡ t) × (length t.letters ≡ 8) }
-{
-    t
-}
-
-fn six(g: Substitution) -> Substitution
-    ensures { (result ≡ g) × (length g ≡ 6) }
-{
-    g
-}
 
 // A name that is left takes letter 0.
 fn settled(x: u8) -> u8
     ensures { result ≡ settle x }
 {
     if x < FIRST_PLACE {
-        return x;
-    }
-    if x == PAST { PAST } else { 0 }
-}
-
-// What a place holds after a renaming.
-fn renamed(x: u8, by: Renaming) -> u8
-    ensures { result ≡ renames by x }
-{
-    match by {
-        Renaming::Replace(u, v) => if x == u { v } else { x },
-        Renaming::Settle => settled(x),
+        x
+    } else if x == PAST {
+        PAST
+    } else {
+        0
     }
 }
 
 // A renaming of the places of one field.
-fn rename_field(t: Field, by: Renaming) -> Field
-    ensures { result ≡ map_field (renames by) t }
+fn rename_field<F: Fn(u8) -> u8 + Copy>(t: Field, by: F) -> Field
+    requires { F.IsAlwaysCallable by }
+    ensures { (s : ℕ → ℕ) → Computes (F.post by) s → result ≡ map_field s t }
 {
-    let known = eight(t);
-    let from = t.letters;
     let mut letters = t.letters;
-    let mut c: usize = 0;
-    while c < PLACES {
-        letters[c] = renamed(from[c], by);
-        c += 1;
+    for c in 0..PLACES {
+        letters[c] = by(t.letters[c]);
     }
     Field {
-        letters: letters,
+        letters,
         len: t.len,
     }
 }
 
-// A renaming of all places.
-pub fn rename(g: Substitution, by: Renaming) -> Substitution
-    ensures { result ≡ app (renames by) g }
+// A renaming of all places: what `by` computes is applied to each.
+pub fn rename<F: Fn(u8) -> u8 + Copy>(g: Substitution, by: F) -> Substitution
+    requires { F.IsAlwaysCallable by }
+    ensures { (s : ℕ → ℕ) → Computes (F.post by) s → result ≡ app s g }
 {
-    let known = six(g);
     let mut h = g;
-    let mut f: usize = 0;
-    while f < FIELDS {
-        let t = g[f];
-        h[f] = rename_field(t, by);
-        f += 1;
+    for f in 0..FIELDS {
+        h[f] = rename_field(g[f], by);
     }
     h
+}
+
+// Name u becomes v, another name or a letter.
+fn replace(g: Substitution, u: u8, v: u8) -> Substitution
+    ensures { result ≡ app (repl u v) g }
+{
+    rename(g, |x| if x == u { v } else { x })
+}
+
+// Every name that is left becomes the lowest letter.
+pub fn settle(g: Substitution) -> Substitution
+    ensures { result ≡ app settle g }
+{
+    rename(g, settled)
 }
 
 // What a cell holds: its letter, or what stands at its place.
@@ -99,34 +73,21 @@ pub fn value(g: Substitution, u: u8) -> u8
     if u < FIRST_PLACE {
         return u;
     }
-    let t = g[((u - FIRST_PLACE) / shape::PLACES) as usize];
-    t.letters[((u - FIRST_PLACE) % shape::PLACES) as usize]
+    let at = u - FIRST_PLACE;
+    g[usize::from(at / shape::PLACES)].letters[usize::from(at % shape::PLACES)]
 }
 
 // Makes the values u and v, letters or names, the same in the most general way; or fails, where they are two letters that differ.
-pub fn unify(g: Substitution, u: u8, v: u8) -> Found
+pub fn unify(g: Substitution, u: u8, v: u8) -> Option<Substitution>
     ensures { result ≡ unify_of g u v }
 {
     if u == v {
-        return Found {
-            ok: true,
-            substitution: g,
-        };
-    }
-    if u >= FIRST_PLACE {
-        return Found {
-            ok: true,
-            substitution: rename(g, Renaming::Replace(u, v)),
-        };
-    }
-    if v >= FIRST_PLACE {
-        return Found {
-            ok: true,
-            substitution: rename(g, Renaming::Replace(v, u)),
-        };
-    }
-    Found {
-        ok: false,
-        substitution: g,
+        Some(g)
+    } else if u >= FIRST_PLACE {
+        Some(replace(g, u, v))
+    } else if v >= FIRST_PLACE {
+        Some(replace(g, v, u))
+    } else {
+        None
     }
 }

@@ -12,14 +12,12 @@ ghost use Rattle.std.specs.Prelude.{◌≡◌, [], ◌∷◌, ◌+◌, ◌≤◌
 ghost use Rattle.calls.specs.Calls.{finished, checking};
 
 use fields::MOST_BYTES;
-use hexadecimal::{after, decode, find};
-use input::read_full;
+use hexadecimal::decode;
+use judge::Judgement;
 use mismatch::Mismatch;
 use report::MOST_REPORT;
-use scan::wide;
 use std::io;
-use substitution::{Checking, Spelling};
-use vectors::{lent, next, room, show_refused};
+use vectors::{lent, run, show_refused};
 
 // Room for a sheet's or a filling's bytes. Document 01 accepts none of more than 159; some vectors
 // have just over 256, so that a length that is kept in one byte would show.
@@ -33,35 +31,20 @@ const LENT: usize = 32;
 
 // Shows each vector of standard input, of which the first 65,536 bytes are read.
 fn main(rt: HostRuntime) -> io::Result<()> {
-    let mut buf = room();
-    let n = read_full(&mut rt.stdin(), &mut buf);
-    show_vectors(&rt, &buf[..n])
-}
-
-// Shows each vector of a text.
-fn show_vectors(rt: &impl Print, text: &[u8]) -> io::Result<()> {
-    let mut at = next(rt, text, 0)?;
-    while at < text.len() {
-        let end = find(text, at, b'\n');
-        show_vector(rt, &text[at..end])?;
-        at = next(rt, text, end + 1)?;
-    }
-    Ok(())
+    run(&rt, |vector| show_vector(&rt, vector))
 }
 
 // Prints the answer to a vector: a sheet, a filling and, where a spelling is asked, a third part.
 fn show_vector(rt: &impl Print, text: &[u8]) -> io::Result<()> {
-    let first = find(text, 0, b';');
-    let second = find(text, after(text, first), b';');
+    let mut parts = text.splitn(3, |x| *x == b';');
     let mut sheet = [0u8; ROOM];
     let mut filling = [0u8; ROOM];
-    // The colon and the semicolons are no digits, and are passed over.
-    let n = decode(&text[..first], &mut sheet);
-    let m = decode(&text[first..second], &mut filling);
-    if second == text.len() {
-        show_check(rt, &sheet[..n], &filling[..m])
-    } else {
-        show_spell(rt, &sheet[..n], &filling[..m], &text[second..])
+    // The colon is no digit, and is passed over.
+    let n = decode(parts.next().unwrap_or(&[]), &mut sheet);
+    let m = decode(parts.next().unwrap_or(&[]), &mut filling);
+    match parts.next() {
+        None => show_check(rt, &sheet[..n], &filling[..m]),
+        Some(asked) => show_spell(rt, &sheet[..n], &filling[..m], asked),
     }
 }
 
@@ -81,16 +64,15 @@ fn show_mismatch(rt: &impl Print, equation: usize, found: Mismatch) -> io::Resul
 
 // Prints what checking a filling answers: the report of a clash, or the cause why there is none.
 fn show_check(rt: &impl Print, sheet: &[u8], filling: &[u8]) -> io::Result<()> {
-    let checking = substitution::check(sheet, filling);
-    match checking {
-        Checking::Solves => show_report(rt, sheet, filling),
-        Checking::Differs(equation, found) => show_mismatch(rt, equation, found),
-        Checking::Breaks(constraint) => {
+    match substitution::check(sheet, filling) {
+        Ok(Judgement::Solution) => show_report(rt, sheet, filling),
+        Ok(Judgement::Differs(equation, found)) => show_mismatch(rt, equation, found),
+        Ok(Judgement::Breaks(constraint)) => {
             show_number(rt, ": no clash, rule ", constraint)?;
             rt.write_all(b"\n")
         }
-        Checking::Refused(refusal) => {
-            show_refused(rt, substitution::number(refusal))?;
+        Err(refusal) => {
+            show_refused(rt, u8::from(refusal))?;
             rt.write_all(b"\n")
         }
     }
@@ -112,9 +94,9 @@ fn show_difference(rt: &impl Print, sheet: &[u8], filling: &[u8]) -> io::Result<
     requires { checking sheet.now filling.now ≡ finished (1 ∷ []) }
 {
     let mut buf = [0u8; MOST_BYTES];
-    let fields = wide(parts::four_counts(sheet).fields);
+    let fields = usize::from(parts::four_counts(sheet).fields);
     fields::store(&mut buf, fields::load(sheet, filling), fields);
-    if !scan::same(&buf[..filling.len()], filling) {
+    if &buf[..filling.len()] != filling {
         rt.write_all(b"stored again, the filling differs\n")?;
     }
     Ok(())
@@ -145,10 +127,9 @@ fn show_spelling(
     filling: &[u8],
     buf: &mut [u8],
 ) -> io::Result<()> {
-    let spelling = substitution::spell(sheet, equation, side, filling, buf);
-    match spelling {
-        Spelling::Length(n) => show_number(rt, ": spelled ", n)?,
-        Spelling::Refused(refusal) => show_refused(rt, substitution::number(refusal))?,
+    match substitution::spell(sheet, equation, side, filling, buf) {
+        Ok(n) => show_number(rt, ": spelled ", n)?,
+        Err(refusal) => show_refused(rt, u8::from(refusal))?,
     }
     rt.write_all(b" |")?;
     rt.write_all(buf)?;
@@ -159,11 +140,9 @@ fn show_spelling(
 fn number(bytes: &[u8; ASKED], at: usize) -> usize
     requires { at + 8 ≤ 17 }
 {
-    let mut n: usize = 0;
-    let mut i = at;
-    while i < at + 8 {
-        n = (n << 8) | wide(bytes[i]);
-        i += 1;
+    let mut n = 0;
+    for x in &bytes[at..at + 8] {
+        n = (n << 8) | usize::from(*x);
     }
     n
 }

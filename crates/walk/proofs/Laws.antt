@@ -1,6 +1,6 @@
 -- Laws of `walk_in` as the code meets it, which passes over all blanks of a side at once and counts cells from the start of a side; of the cells that are
 -- lent on; and of the undecided places, which never rise. Assumes nothing.
-use mathlib.Core.Path.{◌≡◌, sym, ap, ◌∙◌}
+use mathlib.Core.Path.{◌≡◌, refl, sym, ap, ◌∙◌}
 use mathlib.Core.Bool.{Bool, true, false}
 use mathlib.Core.List.{List, [], ◌∷◌, map}
 use Prim.Native.Nat.{ℕ, zero, suc, ◌+◌, ◌-◌, ◌<◌, ◌≤◌}
@@ -15,11 +15,17 @@ use Rattle.model.specs.Lists.{pick}
 use Rattle.model.proofs.Lists.{by_test}
 use Rattle.model.proofs.Seams.{tail_lent}
 use Rattle.fields.specs.declared.Field.{Field}
-use Rattle.unification.specs.declared.Found.{Found}
+use Rattle.std.specs.Prelude.{Option, Some, None}
+use Rattle.std.specs.Bool.{then_some}
 use Rattle.unification.specs.Names.{repl, app, value_of, unify_of}
-use Rattle.unification.proofs.Laws.{pick_ind, unify_cases}
+use Rattle.unification.proofs.Laws.{pick_ind, unified_by}
 use Rattle.walk.specs.declared.Walked.{Walked}
 use Rattle.walk.specs.Walk.{Cells, named, names, undecided, Skipped, Reached, reached, may_end, alike_of, waits_of, onward, walk_in, told, walk_on}
+
+-- a value, if the test says so
+pub some_if : {A : Type 0} (o : Bool) (x : A) → then_some o x ≡ pick o (Some x) None
+some_if true x = refl
+some_if false x = refl
 
 -- a stretch of cells
 cells-take : (k : ℕ) (a : List ℕ) → Cells a → Cells (take k a)
@@ -59,11 +65,10 @@ unfolding undecided app
 undecided-repl u v h n [] = omega arith
 undecided-repl u v h n (t ∷ g) = let one = names-repl u v h n t.letters in let ih = undecided-repl u v h n g in omega arith
 
-undecided_unify : (g : List Field) (u v : ℕ) → (u ≡ 255 → ⊥) → (v ≡ 255 → ⊥) → undecided (unify_of g u v).substitution ≤ undecided g
+undecided_unify : (g : List Field) (u v : ℕ) → (u ≡ 255 → ⊥) → (v ≡ 255 → ⊥) → (h : List Field) → unify_of g u v ≡ Some h → undecided h ≤ undecided g
 undecided_unify g u v n m =
-    unify_cases (λ r. undecided r.substitution ≤ undecided g) g u v
+    unified_by (λ h. undecided h ≤ undecided g) g u v
     (λ e. omega arith)
-    (λ d a b. omega arith)
     (λ d h. undecided-repl u v h n g)
     (λ d h. undecided-repl v u h m g)
 
@@ -91,7 +96,7 @@ blank-right (u ∷ a) v b g e = by (ℕ_discrete (value_of g u) 255) (blank-righ
     by (no n) ih = simp (ne_eqb _ _ n, eq-eqb _ _ e)
 
 -- and so may any number of them
-past_blanks : (W : List ℕ → Reached) (g : List Field) → ((u : ℕ) (a : List ℕ) → value_of g u ≡ 255 → W a ≡ W (u ∷ a)) → (a : List ℕ) (from i : ℕ) → from ≤ i → i ≤ length a → ((k : ℕ) → from ≤ k → k < i → value_of g (get_or a k 0) ≡ 255) → W (drop i a) ≡ W (drop from a)
+past_blanks : (W : List ℕ → Option Reached) (g : List Field) → ((u : ℕ) (a : List ℕ) → value_of g u ≡ 255 → W a ≡ W (u ∷ a)) → (a : List ℕ) (from i : ℕ) → from ≤ i → i ≤ length a → ((k : ℕ) → from ≤ k → k < i → value_of g (get_or a k 0) ≡ 255) → W (drop i a) ≡ W (drop from a)
 past_blanks W g one a from zero l h e = let z : from ≡ 0 = omega arith in rw z
 past_blanks W g one a from (suc i) l h e = by (ℕ_discrete from (suc i)) (past_blanks W g one a from i)
   where
@@ -122,7 +127,7 @@ module _ {a : List ℕ} {g : List Field} {from i : ℕ} (s : Skipped g a from i)
   solid-left = s.solid in_range
 
 -- what the code asks of two cells, test by test
-test_by_test : (x y u v : ℕ) (pass wait meet : Reached) → (u ≡ v → meet ≡ pass)
+test_by_test : (x y u v : ℕ) (pass wait meet : Option Reached) → (u ≡ v → meet ≡ pass)
     → pick (alike_of x y u v) pass (pick (waits_of u v) wait meet) ≡ pick (eqb x y) pass (pick (eqb u 254) wait (pick (eqb v 254) wait meet))
 test_by_test x y u v pass wait meet same =
     by_test (eqb x y) (λ t. rw t)
@@ -138,13 +143,17 @@ module _ {a b : List ℕ} {g : List Field} {from to i j : ℕ} (s : Skipped g a 
       past_blanks (λ z. walk_in (drop i a) z g) g (λ v z. blank-right (drop i a) v z g) b to j t.past t.within t.blank
       ∙ past_blanks (λ z. walk_in z (drop to b) g) g (λ u z. blank-left u z (drop to b) g) a from i s.past s.within s.blank
 
-  -- the walk stops here
-  abbrev here : Bool → Walked
-  here o = record { ok = o; left = i; right = j; substitution = g }
+  -- the walk stops here, if it has not failed
+  abbrev here : Bool → Option Walked
+  here o = pick o (Some (record { left = i; right = j; substitution = g })) None
+
+  told_here : (o : Bool) → here o ≡ told a b (reached o (drop i a) (drop j b) g)
+  told_here true = rw (passed a i s.within, passed b j t.within)
+  told_here false = refl
 
   stops : (o : Bool) → walk_in (drop i a) (drop j b) g ≡ reached o (drop i a) (drop j b) g → here o ≡ walk_on a b from to g
   unfolding walk_on
-  stops o e = rw (← skipped, e, passed a i s.within, passed b j t.within)
+  stops o e = rw (← skipped, e) (told_here o)
 
   -- a side is used up
   pub left_end : i ≡ length a → here (may_end b j g) ≡ walk_on a b from to g
@@ -162,35 +171,34 @@ module _ {a b : List ℕ} {g : List Field} {from to i j : ℕ} (s : Skipped g a 
 
     -- on both sides a cell is left that is not blank; they hold u and v
     module _ (q : j ≡ length b → ⊥) {u v : ℕ} (holds : u ≡ value_of g (get_or a i 0)) (holds-too : v ≡ value_of g (get_or b j 0)) where
-      abbrev next_in : List Field → Reached
+      abbrev next_in : List Field → Option Reached
       next_in h = walk_in (drop (i + 1) a) (drop (j + 1) b) h
 
-      abbrev stay : Bool → Reached
+      abbrev stay : Bool → Option Reached
       stay o = reached o (drop i a) (drop j b) g
 
-      meeting : pick (alike_of (get_or a i 0) (get_or b j 0) u v) (next_in g) (pick (waits_of u v) (stay true) (onward (unify_of g u v) next_in (stay false))) ≡ walk_in (drop i a) (drop j b) g
+      meeting : pick (alike_of (get_or a i 0) (get_or b j 0) u v) (next_in g) (pick (waits_of u v) (stay true) (onward (unify_of g u v) next_in)) ≡ walk_in (drop i a) (drop j b) g
       unfolding walk_in unify_of
       meeting =
-          test_by_test (get_or a i 0) (get_or b j 0) u v (next_in g) (stay true) (onward (unify_of g u v) next_in (stay false)) (λ e. rw (eq-eqb u v e))
+          test_by_test (get_or a i 0) (get_or b j 0) u v (next_in g) (stay true) (onward (unify_of g u v) next_in) (λ e. rw (eq-eqb u v e))
           ∙ rw (holds, holds-too, some_left s p, some_left t q) (simp (ne_eqb _ _ (solid-left s p), ne_eqb _ _ (solid-left t q)))
 
-      -- w is what the walk answers past both cells
-      pub passes : alike_of (get_or a i 0) (get_or b j 0) u v ≡ true → (w : Walked) → w ≡ walk_on a b (i + 1) (j + 1) g → w ≡ walk_on a b from to g
+      -- the walk goes on past both cells
+      pub passes : alike_of (get_or a i 0) (get_or b j 0) u v ≡ true → walk_on a b (i + 1) (j + 1) g ≡ walk_on a b from to g
       unfolding walk_on
-      passes e w h = h ∙ ap (told a b) ((rw e at meeting) ∙ skipped)
+      passes e = ap (told a b) ((rw e at meeting) ∙ skipped)
 
       module _ (other : alike_of (get_or a i 0) (get_or b j 0) u v ≡ false) where
         pub waits_there : waits_of u v ≡ true → here true ≡ walk_on a b from to g
         waits_there o = stops true (sym meeting ∙ rw (other, o))
 
-        -- r is what unification answers
-        module _ (closed : waits_of u v ≡ false) (r : Found) (is : r ≡ unify_of g u v) where
-          pub unified : r.ok ≡ true → (w : Walked) → w ≡ walk_on a b (i + 1) (j + 1) r.substitution → w ≡ walk_on a b from to g
+        module _ (closed : waits_of u v ≡ false) where
+          pub unified : (h : List Field) → unify_of g u v ≡ Some h → walk_on a b (i + 1) (j + 1) h ≡ walk_on a b from to g
           unfolding walk_on
-          unified k w h = h ∙ rw (← skipped, ← meeting, other, closed, ← is, k)
+          unified h k = rw (← skipped, ← meeting, other, closed, k)
 
-          pub refuted : r.ok ≡ false → here false ≡ walk_on a b from to g
-          refuted k = stops false (sym meeting ∙ rw (other, closed, ← is, k))
+          pub refuted : unify_of g u v ≡ None → None ≡ walk_on a b from to g
+          refuted k = stops false (sym meeting ∙ rw (other, closed, k))
 
-      pub fewer_undecided : (r : Found) → r ≡ unify_of g u v → undecided r.substitution ≤ undecided g
-      fewer_undecided r is = rw is (undecided_unify g u v (λ e. solid-left s p (sym holds ∙ e)) (λ e. solid-left t q (sym holds-too ∙ e)))
+      pub fewer_undecided : (h : List Field) → unify_of g u v ≡ Some h → undecided h ≤ undecided g
+      fewer_undecided = undecided_unify g u v (λ e. solid-left s p (sym holds ∙ e)) (λ e. solid-left t q (sym holds-too ∙ e))

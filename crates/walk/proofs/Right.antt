@@ -1,8 +1,10 @@
 -- The walk in a box loses nothing: of texts that a substitution of the box covers, and whose words from the walk's start on are equal, it does not fail,
 -- and its answer covers them. So where it fails, no lengths of the box have such texts. Assumes nothing.
-use mathlib.Core.Path.{◌≡◌, refl, sym, ap, ◌∙◌}
+use mathlib.Core.Path.{◌≡◌, refl, sym, ap, subst, ◌∙◌}
 use mathlib.Core.Bool.{true, false}
 use mathlib.Core.List.{List, [], ◌∷◌, ◌++◌}
+use Rattle.std.specs.Prelude.{Bool, Option, Some, None}
+use Rattle.std.proofs.lemmas.Option.{none-some, same_Some}
 use mathlib.Core.Logic.{◌⊎◌, inl, inr}
 use Prim.Native.Nat.{ℕ, suc, ◌+◌, ◌-◌, ◌≤◌}
 use native.Mathlib.Omega.{arith}
@@ -13,9 +15,9 @@ use borrow.Author.Tests.{eqb-true, eqb-false, eq-eqb, ne_eqb}
 use Rattle.model.proofs.Lists.{by_test}
 use Rattle.fields.specs.declared.Field.{Field}
 use Rattle.unification.specs.Names.{repl, app, value_of, unify_of, Refining}
-use Rattle.unification.proofs.Laws.{pick_ind, Renamed, value_renamed, unify_cases, unify_complete, repl_refines}
+use Rattle.unification.proofs.Laws.{pick_ind, Renamed, value_renamed, unified_by, unify_complete, repl_refines}
 use Rattle.walk.specs.declared.Walked.{Walked}
-use Rattle.walk.specs.Walk.{word, Reached, reached, is_open, onward, walk_in, walk_on}
+use Rattle.walk.specs.Walk.{word, Reached, at_cells, reached, is_open, onward, walk_in, in_numbers, told, walk_on}
 use Rattle.walk.specs.Reading.{Reads}
 
 -- a cell holds a letter or a name
@@ -24,18 +26,18 @@ pub record Solid (g : List Field) (u : ℕ) : Type 0 where
   pub closed : value_of g u ≡ 254 → ⊥
 
 -- Induction along the walk: what holds where it stops, and is kept by each way to pass cells, holds of what the walk answers.
-pub record Along (P : List ℕ → List ℕ → List Field → Reached → Type 0) : Type 0 where
+pub record Along (P : List ℕ → List ℕ → List Field → Option Reached → Type 0) : Type 0 where
   pub ends : (g : List Field) → P [] [] g (reached true [] [] g)
-  pub left_blank : (u : ℕ) (a b : List ℕ) (g : List Field) (r : Reached) → value_of g u ≡ 255 → P a b g r → P (u ∷ a) b g r
-  pub right_blank : (v : ℕ) (a b : List ℕ) (g : List Field) (r : Reached) → value_of g v ≡ 255 → P a b g r → P a (v ∷ b) g r
+  pub left_blank : (u : ℕ) (a b : List ℕ) (g : List Field) (r : Option Reached) → value_of g u ≡ 255 → P a b g r → P (u ∷ a) b g r
+  pub right_blank : (v : ℕ) (a b : List ℕ) (g : List Field) (r : Option Reached) → value_of g v ≡ 255 → P a b g r → P a (v ∷ b) g r
   pub left_over : (u : ℕ) (a : List ℕ) (g : List Field) → (value_of g u ≡ 255 → ⊥) → P (u ∷ a) [] g (reached (is_open g u) (u ∷ a) [] g)
   pub right_over : (v : ℕ) (b : List ℕ) (g : List Field) → (value_of g v ≡ 255 → ⊥) → P [] (v ∷ b) g (reached (is_open g v) [] (v ∷ b) g)
-  pub same_cell : (u v : ℕ) (a b : List ℕ) (g : List Field) (r : Reached) → u ≡ v → P a b g r → P (u ∷ a) (v ∷ b) g r
+  pub same_cell : (u v : ℕ) (a b : List ℕ) (g : List Field) (r : Option Reached) → u ≡ v → P a b g r → P (u ∷ a) (v ∷ b) g r
   pub waits : (u v : ℕ) (a b : List ℕ) (g : List Field) → (value_of g u ≡ 254) ⊎ (value_of g v ≡ 254) → P (u ∷ a) (v ∷ b) g (reached true (u ∷ a) (v ∷ b) g)
   pub letters : (u v : ℕ) (a b : List ℕ) (g : List Field) → Solid g u → Solid g v → ((h : List Field) → P a b h (walk_in a b h))
-      → P (u ∷ a) (v ∷ b) g (onward (unify_of g (value_of g u) (value_of g v)) (walk_in a b) (reached false (u ∷ a) (v ∷ b) g))
+      → P (u ∷ a) (v ∷ b) g (onward (unify_of g (value_of g u) (value_of g v)) (walk_in a b))
 
-pub along : (P : List ℕ → List ℕ → List Field → Reached → Type 0) → Along P → (a b : List ℕ) (g : List Field) → P a b g (walk_in a b g)
+pub along : (P : List ℕ → List ℕ → List Field → Option Reached → Type 0) → Along P → (a b : List ℕ) (g : List Field) → P a b g (walk_in a b g)
 unfolding walk_in
 along P k [] [] g = k.ends g
 along P k [] (v ∷ b) g =
@@ -61,6 +63,15 @@ along P k (u ∷ a) (v ∷ b) g =
     (record { present = eqb-false _ _ n; closed = eqb-false _ _ p })
     (record { present = eqb-false _ _ m; closed = eqb-false _ _ q })
     (along P k a b))))))
+
+-- What a walk answers where it has not failed: where it stops, or what it answers with what was unified.
+pub at_stop : (P : Reached → Type 0) (t : Bool) {a b : List ℕ} {g : List Field} → P (at_cells a b g) → (w : Reached) → reached t a b g ≡ Some w → P w
+at_stop P true h w e = subst P (same_Some _ _ e) h
+at_stop P false h w e = absurd (none-some w e)
+
+pub at_onward : (P : Reached → Type 0) (r : Option (List Field)) {go : List Field → Option Reached} → ((h : List Field) → r ≡ Some h → (w : Reached) → go h ≡ Some w → P w) → (w : Reached) → onward r go ≡ Some w → P w
+at_onward P None f w e = absurd (none-some w e)
+at_onward P (Some h) f w e = f h refl w e
 
 never_empty : {P : Type 0} {x : ℕ} {xs : List ℕ} → x ∷ xs ≡ [] → P
 never_empty e = let z : ◌≡◌ {A = ℕ} 0 1 = cc in absurd (omega arith)
@@ -96,24 +107,25 @@ repl_open g u v h n m p q w =
     (λ t. (λ e. absurd (p (sym (eqb-true _ _ t) ∙ e)), λ e. absurd (q e)))
     (λ t. (λ e. e, λ e. e)))
 
-pub unify_open : (g : List Field) (u v : ℕ) → (u ≡ 255 → ⊥) → (v ≡ 255 → ⊥) → (u ≡ 254 → ⊥) → (v ≡ 254 → ⊥) → SameOpen g (unify_of g u v).substitution
+pub unify_open : (g : List Field) (u v : ℕ) → (u ≡ 255 → ⊥) → (v ≡ 255 → ⊥) → (u ≡ 254 → ⊥) → (v ≡ 254 → ⊥) → (h : List Field) → unify_of g u v ≡ Some h → SameOpen g h
 unify_open g u v n m p q =
-    unify_cases (λ r. SameOpen g r.substitution) g u v
+    unified_by (SameOpen g) g u v
     (λ e w. (λ z. z, λ z. z))
-    (λ d a b w. (λ z. z, λ z. z))
     (λ d h. repl_open g u v h n m p q)
     (λ d h. repl_open g v u h m n q p)
 
--- s is read by σ from what the walk answers, and the words from there on are equal
-pub record Keeps (σ : ℕ → ℕ) (s : List Field) (r : Reached) : Type 0 where
-  pub goes : r.ok ≡ true
-  pub reads : Reads σ r.substitution s
-  pub equal : word s r.left ≡ word s r.right
+-- the walk has not failed, s is read by σ from what it answers, and the words from there on are equal
+pub record Keeps (σ : ℕ → ℕ) (s : List Field) (r : Option Reached) : Type 0 where
+  pub at : Reached
+  pub goes : r ≡ Some at
+  pub reads : Reads σ at.substitution s
+  pub equal : word s at.left ≡ word s at.right
 
-pub record KeepsOn (σ : ℕ → ℕ) (s : List Field) (a b : List ℕ) (r : Walked) : Type 0 where
-  pub goes : r.ok ≡ true
-  pub reads : Reads σ r.substitution s
-  pub equal : word s (drop r.left a) ≡ word s (drop r.right b)
+pub record KeepsOn (σ : ℕ → ℕ) (s : List Field) (a b : List ℕ) (r : Option Walked) : Type 0 where
+  pub at : Walked
+  pub goes : r ≡ Some at
+  pub reads : Reads σ at.substitution s
+  pub equal : word s (drop at.left a) ≡ word s (drop at.right b)
 
 module _ (σ : ℕ → ℕ) (p : Refining σ) (s : List Field) where
   -- what the texts have at a cell that is blank, or that holds a letter or a name
@@ -154,21 +166,24 @@ module _ (σ : ℕ → ℕ) (p : Refining σ) (s : List Field) where
       by_test (is_open g u) (λ t. t)
       (λ t. never_empty (sym (read_word g u a h (record { present = n; closed = eqb-false _ _ t })) ∙ e))
 
+  -- it stops where it stands
+  stands : (a b : List ℕ) (g : List Field) (t : Bool) → t ≡ true → Reads σ g s → word s a ≡ word s b → Keeps σ s (reached t a b g)
+  stands a b g t k h e = record { at = at_cells a b g; goes = rw k; reads = h; equal = e }
+
   pub walk_complete : (a b : List ℕ) (g : List Field) → Reads σ g s → word s a ≡ word s b → Keeps σ s (walk_in a b g)
   walk_complete = along (λ a b g r. Reads σ g s → word s a ≡ word s b → Keeps σ s r) record {
-    ends = λ g h e. record { goes = refl; reads = h; equal = e };
+    ends = λ g. stands [] [] g true refl;
     left_blank = λ u a b g r z so h e. so h (sym (word_blank s u a (read-blank g u h z)) ∙ e);
     right_blank = λ v a b g r z so h e. so h (e ∙ word_blank s v b (read-blank g v h z));
-    left_over = λ u a g n h e. record { goes = over_open g u a h n (e ∙ word_none); reads = h; equal = e };
-    right_over = λ v b g n h e. record { goes = over_open g v b h n (sym e ∙ word_none); reads = h; equal = e };
+    left_over = λ u a g n h e. stands (u ∷ a) [] g (is_open g u) (over_open g u a h n (e ∙ word_none)) h e;
+    right_over = λ v b g n h e. stands [] (v ∷ b) g (is_open g v) (over_open g v b h n (sym e ∙ word_none)) h e;
     same_cell = λ u v a b g r d so h e. so h (same_front u a b (e ∙ ap (λ (x : ℕ). word s (x ∷ b)) (sym d)));
-    waits = λ u v a b g o h e. record { goes = refl; reads = h; equal = e };
+    waits = λ u v a b g o. stands (u ∷ a) (v ∷ b) g true refl;
     letters = λ u v a b g m n so h e.
         let q = sym (read_word g u a h m) ∙ e ∙ read_word g v b h n in
-        let k : List Field = (unify_of g (value_of g u) (value_of g v)).substitution in
         let c = unify_complete g (value_of g u) (value_of g v) σ p (cc) in
-        let o : SameOpen g k = unify_open g (value_of g u) (value_of g v) m.present n.present m.closed n.closed in
-        rw c.0 (so k (read_unified g k o c.1 h) (cc));
+        let o : SameOpen g c.0 = unify_open g (value_of g u) (value_of g v) m.present n.present m.closed n.closed c.0 c.1 in
+        rw c.1 (so c.0 (read_unified g c.0 o c.2 h) (cc));
   }
 
 -- What is left of a side is an end of it.
@@ -183,19 +198,23 @@ whole a = record { passed = 0; within = omega arith; is = refl }
 one_more : {u : ℕ} {a xs : List ℕ} → End a xs → End (u ∷ a) xs
 one_more e = record { passed = suc e.passed; within = let h = e.within in omega arith; is = e.is }
 
-walk_ends : (a b : List ℕ) (g : List Field) → End a (walk_in a b g).left × End b (walk_in a b g).right
-walk_ends = along (λ a b g r. End a r.left × End b r.right) record {
-  ends = λ g. (whole [], whole []);
-  left_blank = λ u a b g r z so. (one_more so.0, so.1);
-  right_blank = λ v a b g r z so. (so.0, one_more so.1);
-  left_over = λ u a g n. (whole (u ∷ a), whole []);
-  right_over = λ v b g n. (whole [], whole (v ∷ b));
-  same_cell = λ u v a b g r d so. (one_more so.0, one_more so.1);
-  waits = λ u v a b g o. (whole (u ∷ a), whole (v ∷ b));
+abbrev Ends : List ℕ → List ℕ → Reached → Type 0
+Ends a b w = End a w.left × End b w.right
+
+stays : (a b : List ℕ) (g : List Field) (t : Bool) (w : Reached) → reached t a b g ≡ Some w → Ends a b w
+stays a b g t = at_stop (Ends a b) t (whole a, whole b)
+
+walk_ends : (a b : List ℕ) (g : List Field) (w : Reached) → walk_in a b g ≡ Some w → Ends a b w
+walk_ends = along (λ a b g r. (w : Reached) → r ≡ Some w → Ends a b w) record {
+  ends = λ g. stays [] [] g true;
+  left_blank = λ u a b g r z so w e. let k = so w e in (one_more k.0, k.1);
+  right_blank = λ v a b g r z so w e. let k = so w e in (k.0, one_more k.1);
+  left_over = λ u a g n. stays (u ∷ a) [] g (is_open g u);
+  right_over = λ v b g n. stays [] (v ∷ b) g (is_open g v);
+  same_cell = λ u v a b g r d so w e. let k = so w e in (one_more k.0, one_more k.1);
+  waits = λ u v a b g o. stays (u ∷ a) (v ∷ b) g true;
   letters = λ u v a b g m n so.
-      pick_ind (λ (r : Reached). End (u ∷ a) r.left × End (v ∷ b) r.right) (unify_of g (value_of g u) (value_of g v)).ok
-      (λ t. let e = so (unify_of g (value_of g u) (value_of g v)).substitution in (one_more e.0, one_more e.1))
-      (λ t. (whole (u ∷ a), whole (v ∷ b)));
+      at_onward (Ends (u ∷ a) (v ∷ b)) (unify_of g (value_of g u) (value_of g v)) (λ h _ w e. let k = so h w e in (one_more k.0, one_more k.1));
 }
 
 -- So the cells passed say what is left.
@@ -206,23 +225,25 @@ left_is a xs i h e =
     let at : length a - length xs ≡ i + e.passed = omega (arith, e.within) in
     rw at (sym (drop-drop e.passed i a) ∙ sym e.is)
 
-module _ (a b : List ℕ) (i j : ℕ) (g : List Field) (from : i ≤ length a) (to : j ≤ length b) where
-  left_there : drop (walk_on a b i j g).left a ≡ (walk_in (drop i a) (drop j b) g).left
-  unfolding walk_on
-  left_there = left_is a _ i from (walk_ends (drop i a) (drop j b) g).0
+-- The walk in numbers loses nothing.
+pub walk_on_complete : (a b : List ℕ) (i j : ℕ) (g : List Field) → i ≤ length a → j ≤ length b → (σ : ℕ → ℕ) → Refining σ → (s : List Field) → Reads σ g s → word s (drop i a) ≡ word s (drop j b) → KeepsOn σ s a b (walk_on a b i j g)
+unfolding walk_on
+walk_on_complete a b i j g from to σ p s h e =
+    let k = walk_complete σ p s (drop i a) (drop j b) g h e in
+    let ends = walk_ends (drop i a) (drop j b) g k.at k.goes in
+    record {
+      at = in_numbers a b k.at;
+      goes = rw k.goes;
+      reads = k.reads;
+      equal = ap (word s) (left_is a _ i from ends.0) ∙ k.equal ∙ ap (word s) (sym (left_is b _ j to ends.1));
+    }
 
-  right_there : drop (walk_on a b i j g).right b ≡ (walk_in (drop i a) (drop j b) g).right
-  unfolding walk_on
-  right_there = left_is b _ j to (walk_ends (drop i a) (drop j b) g).1
-
-  -- The walk in numbers loses nothing.
-  pub walk_on_complete : (σ : ℕ → ℕ) → Refining σ → (s : List Field) → Reads σ g s → word s (drop i a) ≡ word s (drop j b) → KeepsOn σ s a b (walk_on a b i j g)
-  unfolding walk_on
-  walk_on_complete σ p s h e =
-      let k = walk_complete σ p s (drop i a) (drop j b) g h e in
-      record { goes = k.goes; reads = k.reads; equal = ap (word s) left_there ∙ k.equal ∙ ap (word s) (sym right_there) }
+-- what a walk in numbers answers, from where it stops
+pub told_some : (P : Walked → Type 0) (a b : List ℕ) (w : Option Reached) → ((q : Reached) → w ≡ Some q → P (in_numbers a b q)) → (r : Walked) → told a b w ≡ Some r → P r
+told_some P a b None f r e = absurd (none-some r e)
+told_some P a b (Some q) f r e = subst P (same_Some _ _ e) (f q refl)
 
 -- the locations are within the sides
-pub walk_on_within : (a b : List ℕ) (i j : ℕ) (g : List Field) (r : Walked) → r ≡ walk_on a b i j g → (r.left ≤ length a) × (r.right ≤ length b)
+pub walk_on_within : (a b : List ℕ) (i j : ℕ) (g : List Field) (r : Walked) → walk_on a b i j g ≡ Some r → (r.left ≤ length a) × (r.right ≤ length b)
 unfolding walk_on
-walk_on_within a b i j g r e = rw e (omega arith, omega arith)
+walk_on_within a b i j g = told_some (λ r. (r.left ≤ length a) × (r.right ≤ length b)) a b (walk_in (drop i a) (drop j b) g) (λ q _. (omega arith, omega arith))

@@ -3,16 +3,17 @@
 use mathlib.Core.Path.{◌≡◌, refl, sym, ap, ap₂, ◌∙◌}
 use mathlib.Core.Bool.{true}
 use mathlib.Core.List.{List, [], ◌∷◌, ◌++◌, map}
+use Rattle.std.specs.Prelude.{Bool, false, Some}
+use Rattle.std.proofs.lemmas.Option.{none-some}
 use mathlib.Core.Logic.{◌⊎◌, inl, inr}
 use Prim.Native.Nat.{ℕ, suc}
 use lib.Dec.{eqb}
 use borrow.Author.Tests.{eqb-true, eqb-false}
-use Rattle.model.proofs.Lists.{never}
 use Rattle.fields.specs.declared.Field.{Field}
 use Rattle.unification.specs.Names.{value_of, unify_of, Inside}
 use Rattle.unification.proofs.Laws.{pick_ind, Renamed, unchanged, further, value_renamed, value_below, Unified, unify_sound, unify_inside}
-use Rattle.walk.specs.Walk.{Letters, word, Reached, walk_in}
-use Rattle.walk.proofs.Right.{Solid, along, word_blank, word-solid, word-append, SameOpen, unify_open}
+use Rattle.walk.specs.Walk.{Letters, word, Reached, reached, is_open, walk_in}
+use Rattle.walk.proofs.Right.{Solid, along, at_stop, at_onward, word_blank, word-solid, word-append, SameOpen, unify_open}
 
 abbrev pub Closed : List Field → Type 0
 Closed g = (w : ℕ) → value_of g w ≡ 254 → ⊥
@@ -65,40 +66,44 @@ solved_both {a} {b} {u = u} {v = v} n m q r =
       equal = renamed_solid both u a n.present ∙ ap₂ (λ x z. x ∷ z) (ap r.how.by q.joins) r.equal ∙ sym (renamed_solid both v b m.present);
     }
 
-pub walk_sound : (a b : List ℕ) (g : List Field) → Closed g → (walk_in a b g).ok ≡ true → Solved a b g (walk_in a b g).substitution
-walk_sound = along (λ a b g r. Closed g → r.ok ≡ true → Solved a b g r.substitution) record {
-  ends = λ g c _. record { how = unchanged g; closed = c; equal = refl };
-  left_blank = λ u a b g r e so c t. solved-left e (so c t);
-  right_blank = λ v a b g r e so c t. exchanged (solved-left e (exchanged (so c t)));
-  left_over = λ u a g n c t. absurd (c u (eqb-true _ _ t));
-  right_over = λ v b g n c t. absurd (c v (eqb-true _ _ t));
-  same_cell = λ u v a b g r d so c t. solved-same d (so c t);
-  waits = λ u v a b g o c t. stuck g u v c o;
+pub walk_sound : (a b : List ℕ) (g : List Field) → Closed g → (w : Reached) → walk_in a b g ≡ Some w → Solved a b g w.substitution
+walk_sound = along (λ a b g r. Closed g → (w : Reached) → r ≡ Some w → Solved a b g w.substitution) record {
+  ends = λ g c. at_stop (λ w. Solved [] [] g w.substitution) true (record { how = unchanged g; closed = c; equal = refl });
+  left_blank = λ u a b g r e so c w t. solved-left e (so c w t);
+  right_blank = λ v a b g r e so c w t. exchanged (solved-left e (exchanged (so c w t)));
+  left_over = λ u a g n c w t. absurd (c u (eqb-true _ _ (not_failed (is_open g u) (u ∷ a) [] g w t)));
+  right_over = λ v b g n c w t. absurd (c v (eqb-true _ _ (not_failed (is_open g v) [] (v ∷ b) g w t)));
+  same_cell = λ u v a b g r d so c w t. solved-same d (so c w t);
+  waits = λ u v a b g o c w t. stuck g u v c o;
   letters = λ u v a b g m n so c.
-      let k : List Field = (unify_of g (value_of g u) (value_of g v)).substitution in
-      let o : SameOpen g k = unify_open g (value_of g u) (value_of g v) m.present n.present m.closed n.closed in
-      pick_ind (λ (r : Reached). r.ok ≡ true → Solved (u ∷ a) (v ∷ b) g r.substitution) (unify_of g (value_of g u) (value_of g v)).ok
-      (λ t e. solved_both m n (unify_sound g (value_of g u) (value_of g v) m.present n.present t) (so k (λ w z. c w ((o w).1 z)) e))
-      (λ _. never);
+      at_onward (λ w. Solved (u ∷ a) (v ∷ b) g w.substitution) (unify_of g (value_of g u) (value_of g v))
+      (λ h t w e.
+      let o : SameOpen g h = unify_open g (value_of g u) (value_of g v) m.present n.present m.closed n.closed h t in
+      solved_both m n (unify_sound g (value_of g u) (value_of g v) m.present n.present h t) (so h (λ x z. c x ((o x).1 z)) w e));
 }
   where
     stuck : {P : Type 0} (g : List Field) (u v : ℕ) → Closed g → (value_of g u ≡ 254) ⊎ (value_of g v ≡ 254) → P
     stuck g u v c (inl e) = absurd (c u e)
     stuck g u v c (inr e) = absurd (c v e)
 
+    not_failed : (t : Bool) (a b : List ℕ) (g : List Field) (w : Reached) → reached t a b g ≡ Some w → t ≡ true
+    not_failed true a b g w e = refl
+    not_failed false a b g w e = absurd (none-some w e)
+
 -- letters come from nowhere else
-pub walk_inside : (l : ℕ) (a b : List ℕ) (g : List Field) → Letters l a → Letters l b → Inside l g → Inside l (walk_in a b g).substitution
-walk_inside l = along (λ a b g r. Letters l a → Letters l b → Inside l g → Inside l r.substitution) record {
-  ends = λ g p q ins. ins;
+pub walk_inside : (l : ℕ) (a b : List ℕ) (g : List Field) → Letters l a → Letters l b → Inside l g → (w : Reached) → walk_in a b g ≡ Some w → Inside l w.substitution
+walk_inside l = along (λ a b g r. Letters l a → Letters l b → Inside l g → (w : Reached) → r ≡ Some w → Inside l w.substitution) record {
+  ends = λ g p q. held true [] [] g;
   left_blank = λ u a b g r e so p q. so (λ i. p (suc i)) q;
   right_blank = λ v a b g r e so p q. so p (λ i. q (suc i));
-  left_over = λ u a g n p q ins. ins;
-  right_over = λ v b g n p q ins. ins;
+  left_over = λ u a g n p q. held (is_open g u) (u ∷ a) [] g;
+  right_over = λ v b g n p q. held (is_open g v) [] (v ∷ b) g;
   same_cell = λ u v a b g r d so p q. so (λ i. p (suc i)) (λ i. q (suc i));
-  waits = λ u v a b g o p q ins. ins;
+  waits = λ u v a b g o p q. held true (u ∷ a) (v ∷ b) g;
   letters = λ u v a b g m n so p q ins.
-      let k : Inside l (unify_of g (value_of g u) (value_of g v)).substitution = unify_inside l g (value_of g u) (value_of g v) ins m.present n.present (value_below l g u ins (p 0)) (value_below l g v ins (q 0)) in
-      pick_ind (λ (r : Reached). Inside l r.substitution) (unify_of g (value_of g u) (value_of g v)).ok
-      (λ t. so (unify_of g (value_of g u) (value_of g v)).substitution (λ i. p (suc i)) (λ i. q (suc i)) k)
-      (λ t. ins);
+      at_onward (λ w. Inside l w.substitution) (unify_of g (value_of g u) (value_of g v))
+      (λ h t. so h (λ i. p (suc i)) (λ i. q (suc i)) (unify_inside l g (value_of g u) (value_of g v) ins m.present n.present (value_below l g u ins (p 0)) (value_below l g v ins (q 0)) h t));
 }
+  where
+    held : (t : Bool) (a b : List ℕ) (g : List Field) → Inside l g → (w : Reached) → reached t a b g ≡ Some w → Inside l w.substitution
+    held t a b g ins = at_stop (λ w. Inside l w.substitution) t ins

@@ -1,8 +1,8 @@
 -- The equation automaton in a box of lengths: a location is the cells that are left on both sides.
-use Rattle.std.specs.Prelude.{◌≡◌, Bool, true, false, List, [], ◌∷◌, ℕ, ◌+◌, ◌-◌, ◌<◌, ◌≤◌, get_or, length, drop, ltb, eqb}
+use Rattle.std.specs.Prelude.{◌≡◌, Bool, true, false, Option, Some, None, List, [], ◌∷◌, ℕ, ◌+◌, ◌-◌, ◌<◌, ◌≤◌, get_or, length, drop, ltb, eqb}
 use Rattle.model.specs.Lists.{pick}
 use Rattle.fields.specs.declared.Field.{Field}
-use Rattle.unification.specs.declared.Found.{Found}
+use Rattle.std.specs.Option.{option_map}
 use Rattle.unification.specs.Names.{value_of, unify_of, Below}
 use Rattle.walk.specs.declared.Walked.{Walked}
 
@@ -38,15 +38,18 @@ pub record Skipped (g : List Field) (a : List ℕ) (from r : ℕ) : Type 0 where
   pub blank : (k : ℕ) → from ≤ k → k < r → value_of g (get_or a k 0) ≡ 255
   pub solid : r < length a → value_of g (get_or a r 0) ≡ 255 → ⊥
 
--- where a walk stands: whether it has not failed, the cells left on both sides, and the substitution there
+-- where a walk stands: the cells left on both sides, and the substitution there
 pub record Reached : Type 0 where
-  pub ok : Bool
   pub left : List ℕ
   pub right : List ℕ
   pub substitution : List Field
 
-abbrev pub reached : Bool → List ℕ → List ℕ → List Field → Reached
-reached t a b g = record { ok = t; left = a; right = b; substitution = g }
+abbrev pub at_cells : List ℕ → List ℕ → List Field → Reached
+at_cells a b g = record { left = a; right = b; substitution = g }
+
+-- where a walk stops, if it has not failed
+abbrev pub reached : Bool → List ℕ → List ℕ → List Field → Option Reached
+reached t a b g = pick t (Some (at_cells a b g)) None
 
 -- whether cell u holds 254: it is open whether there is such a place
 abbrev pub is_open : List Field → ℕ → Bool
@@ -64,13 +67,14 @@ alike_of x y u v = pick (eqb x y) true (pick (eqb u 254) false (eqb u v))
 abbrev pub waits_of : ℕ → ℕ → Bool
 waits_of u v = pick (eqb u 254) true (eqb v 254)
 
--- the walk goes on with what was unified, where it could be
-abbrev pub onward : Found → (List Field → Reached) → Reached → Reached
-onward r go stop = pick r.ok (go r.substitution) stop
+-- the walk goes on with what was unified, and fails where nothing was
+abbrev pub onward : Option (List Field) → (List Field → Option Reached) → Option Reached
+onward None go = None
+onward (Some h) go = go h
 
 -- Blank heads are dropped (document 01's B and C), and so is the same cell on both sides. An open place stops the walk. A side used up before a letter or
 -- name fails (F). Else the two are unified (E), and both dropped (D), where they can be.
-unfoldable pub walk_in : List ℕ → List ℕ → List Field → Reached
+unfoldable pub walk_in : List ℕ → List ℕ → List Field → Option Reached
 walk_in [] [] g = reached true [] [] g
 walk_in [] (v ∷ b) g = pick (eqb (value_of g v) 255) (walk_in [] b g) (reached (is_open g v) [] (v ∷ b) g)
 walk_in (u ∷ a) [] g = pick (eqb (value_of g u) 255) (walk_in a [] g) (reached (is_open g u) (u ∷ a) [] g)
@@ -80,12 +84,15 @@ walk_in (u ∷ a) (v ∷ b) g =
     (pick (eqb u v) (walk_in a b g)
     (pick (is_open g u) (reached true (u ∷ a) (v ∷ b) g)
     (pick (is_open g v) (reached true (u ∷ a) (v ∷ b) g)
-    (onward (unify_of g (value_of g u) (value_of g v)) (walk_in a b) (reached false (u ∷ a) (v ∷ b) g))))))
+    (onward (unify_of g (value_of g u) (value_of g v)) (walk_in a b))))))
 
 -- the same in numbers: how many of the cells a and b are passed
-abbrev pub told : List ℕ → List ℕ → Reached → Walked
-told a b w = record { ok = w.ok; left = length a - length w.left; right = length b - length w.right; substitution = w.substitution }
+abbrev pub in_numbers : List ℕ → List ℕ → Reached → Walked
+in_numbers a b w = record { left = length a - length w.left; right = length b - length w.right; substitution = w.substitution }
+
+abbrev pub told : List ℕ → List ℕ → Option Reached → Option Walked
+told a b w = option_map (in_numbers a b) w
 
 -- the walk from cell i of a and cell j of b
-unfoldable pub walk_on : List ℕ → List ℕ → ℕ → ℕ → List Field → Walked
+unfoldable pub walk_on : List ℕ → List ℕ → ℕ → ℕ → List Field → Option Walked
 walk_on a b i j g = told a b (walk_in (drop i a) (drop j b) g)

@@ -15,10 +15,9 @@ use shape::{FIRST_PLACE, PLACES};
 // What an open place holds.
 pub const OPEN: u8 = 254;
 
-// How far a walk came: the cells passed on either side, and the substitution there. Where it is not ok, no lengths of the box make the sides the same.
+// How far a walk came: the cells passed on either side, and the substitution there.
 #[derive(Clone, Copy)]
 pub struct Walked {
-    pub ok: bool,
     pub left: usize,
     pub right: usize,
     pub substitution: Substitution,
@@ -29,14 +28,12 @@ fn skip(a: &[u8], from: usize, g: Substitution) -> usize
     requires { Cells a.now × (from ≤ length a.now) }
     ensures { Skipped g a.now from result }
 {
-    let mut i = from;
-    while i < a.len() {
+    for i in from..a.len() {
         if unification::value(g, a[i]) != PAST {
             return i;
         }
-        i += 1;
     }
-    i
+    a.len()
 }
 
 // Whether nothing may be left of a side from cell i on: it is used up, or begins with an open place.
@@ -44,87 +41,66 @@ fn may_end(a: &[u8], i: usize, g: Substitution) -> bool
     requires { Cells a.now }
     ensures { result ≡ may_end a.now i g }
 {
-    if i < a.len() {
-        return unification::value(g, a[i]) == OPEN;
-    }
-    true
+    i >= a.len() || unification::value(g, a[i]) == OPEN
 }
 
 // Whether cells x and y, which hold u and v, are passed as they stand: it is the same cell, or they hold the same letter or name.
 fn alike(x: u8, y: u8, u: u8, v: u8) -> bool
     ensures { result ≡ alike_of x y u v }
 {
-    if x == y {
-        return true;
-    }
-    if u == OPEN {
-        return false;
-    }
-    u == v
+    x == y || (u != OPEN && u == v)
 }
 
 // Whether one of two values is open.
 fn waits(u: u8, v: u8) -> bool
     ensures { result ≡ waits_of u v }
 {
-    if u == OPEN {
-        return true;
-    }
-    v == OPEN
+    u == OPEN || v == OPEN
 }
 
 // From cell left0 of a and cell right0 of b: blanks are passed over (document 01's B and C); the same cell on both sides is passed whatever it holds; the
 // walk stops at an open place; a side that is used up before a letter fails (F); else what the cells hold is made the same (E) and passed (D), or fails
-// where it is two letters that differ.
-pub fn walk_on(a: &[u8], b: &[u8], left0: usize, right0: usize, g: Substitution) -> Walked
+// where it is two letters that differ. Where it fails, no lengths of the box make the sides the same.
+pub fn walk_on(a: &[u8], b: &[u8], left0: usize, right0: usize, g: Substitution) -> Option<Walked>
     requires { Cells a.now × Cells b.now × (left0 ≤ length a.now) × (right0 ≤ length b.now) }
     ensures { result ≡ walk_on a.now b.now left0 right0 g }
 {
-    let i = skip(a, left0, g);
-    let j = skip(b, right0, g);
-    if i == a.len() {
-        return Walked {
-            ok: may_end(b, j, g),
-            left: i,
-            right: j,
-            substitution: g,
-        };
-    }
-    if j == b.len() {
-        return Walked {
-            ok: may_end(a, i, g),
-            left: i,
-            right: j,
-            substitution: g,
-        };
-    }
-    let x = a[i];
-    let y = b[j];
-    let u = unification::value(g, x);
-    let v = unification::value(g, y);
-    let p = i + 1;
-    let q = j + 1;
-    if alike(x, y, u, v) {
-        return walk_on(a, b, p, q, g);
-    }
-    if waits(u, v) {
-        return Walked {
-            ok: true,
-            left: i,
-            right: j,
-            substitution: g,
-        };
-    }
-    let r = unification::unify(g, u, v);
-    if r.ok {
-        let h = r.substitution;
-        return walk_on(a, b, p, q, h);
-    }
-    Walked {
-        ok: false,
-        left: i,
-        right: j,
-        substitution: g,
+    let mut left = left0;
+    let mut right = right0;
+    let mut substitution = g;
+    loop {
+        left = skip(a, left, substitution);
+        right = skip(b, right, substitution);
+        if left == a.len() {
+            return may_end(b, right, substitution).then_some(Walked {
+                left,
+                right,
+                substitution,
+            });
+        }
+        if right == b.len() {
+            return may_end(a, left, substitution).then_some(Walked {
+                left,
+                right,
+                substitution,
+            });
+        }
+        let x = a[left];
+        let y = b[right];
+        let u = unification::value(substitution, x);
+        let v = unification::value(substitution, y);
+        if !alike(x, y, u, v) {
+            if waits(u, v) {
+                return Some(Walked {
+                    left,
+                    right,
+                    substitution,
+                });
+            }
+            substitution = unification::unify(substitution, u, v)?;
+        }
+        left += 1;
+        right += 1;
     }
 }
 
@@ -133,14 +109,12 @@ fn renewed(t: Field, f: u8, c: u8, lo: u8, hi: u8) -> u8
     requires { (f < 6) × (c < 8) }
     ensures { result ≡ renew_place f lo hi t c }
 {
-    let x = t.letters[c as usize];
+    let x = t.letters[usize::from(c)];
     if hi <= c {
-        return PAST;
-    }
-    if x != OPEN {
-        return x;
-    }
-    if c < lo {
+        PAST
+    } else if x != OPEN {
+        x
+    } else if c < lo {
         FIRST_PLACE + PLACES * f + c
     } else {
         OPEN
@@ -152,8 +126,8 @@ fn renew_field(t: Field, f: u8, lo: Lengths, hi: Lengths) -> Field
     requires { f < 6 }
     ensures { result ≡ renew_field f (get_or lo f 0) (get_or hi f 0) t }
 {
-    let least = lo[f as usize];
-    let most = hi[f as usize];
+    let least = lo[usize::from(f)];
+    let most = hi[usize::from(f)];
     Field {
         letters: [
             renewed(t, f, 0, least, most),

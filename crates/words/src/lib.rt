@@ -12,19 +12,16 @@ ghost use Rattle.model.specs.Mismatch as mismatch;
 ghost use Rattle.fields.specs.Memory.{texts_of, Whole};
 
 use fields::Substitution;
-use scan::{FIRST_FIELD, wide};
+use scan::FIRST_FIELD;
 
 // Copies a piece to an offset of the buffer. Returns the offset past it.
 pub fn put(buf: &mut [u8], at: usize, piece: &[u8]) -> usize
     requires { at + length piece.now ≤ length buf.old }
     ensures { Puts buf.old at piece.now buf.new result }
 {
-    let mut i: usize = 0;
-    while i < piece.len() {
-        buf[at + i] = piece[i];
-        i += 1;
-    }
-    at + i
+    let past = at + piece.len();
+    buf[at..past].copy_from_slice(piece);
+    past
 }
 
 // What a symbol stands for: a letter, or a field's text.
@@ -35,9 +32,8 @@ fn put_symbol(word: &mut [u8], at: usize, symbol: u8, g: Substitution) -> usize
     if symbol < FIRST_FIELD {
         return put(word, at, &[symbol]);
     }
-    let field = g[wide(symbol - FIRST_FIELD)];
-    let letters = field.letters;
-    put(word, at, &letters[..wide(field.len)])
+    let field = g[usize::from(symbol - FIRST_FIELD)];
+    put(word, at, &field.letters[..usize::from(field.len)])
 }
 
 // The word that a template spells, at the front of `word`. Returns its length.
@@ -46,10 +42,8 @@ pub fn spell(word: &mut [u8], template: &[u8], g: Substitution) -> usize
     ensures { Puts word.old 0 (model.spell (texts_of g) (map symbol_of template.now)) word.new result }
 {
     let mut at: usize = 0;
-    let mut i: usize = 0;
-    while i < template.len() {
-        at = put_symbol(word, at, template[i], g);
-        i += 1;
+    for &symbol in template {
+        at = put_symbol(word, at, symbol, g);
     }
     at
 }
@@ -58,17 +52,13 @@ pub fn spell(word: &mut [u8], template: &[u8], g: Substitution) -> usize
 pub fn agreeing(left: &[u8], right: &[u8]) -> usize
     ensures { (result ≤ length left.now) × (result ≤ length right.now) × ((s : Sheet) → result ≡ mismatch.agreeing s left.now right.now) }
 {
-    let mut i: usize = 0;
-    while i < left.len() {
-        if right.len() <= i {
-            return i;
-        }
+    let n = left.len().min(right.len());
+    for i in 0..n {
         if left[i] != right[i] {
             return i;
         }
-        i += 1;
     }
-    i
+    n
 }
 
 // What is left over of two words: the caller's own left word from the first letter on that does not agree, unless it is used up; then the right one.
@@ -77,9 +67,10 @@ pub fn rest<'a>(left: &'a [u8], right: &'a [u8]) -> &'a [u8]
 {
     let n = agreeing(left, right);
     if n < left.len() {
-        return &left[n..];
+        &left[n..]
+    } else {
+        &right[n..]
     }
-    &right[n..]
 }
 
 // A word as the sheet's letter bytes, at an offset of the buffer. Returns the offset past it.
@@ -87,10 +78,8 @@ pub fn put_letters(buf: &mut [u8], at: usize, sheet: &[u8], word: &[u8]) -> usiz
     requires { Accepted sheet.now × All (λ a. a < length (sheet_of sheet.now).letters) word.now × (at + length word.now ≤ length buf.old) }
     ensures { Puts buf.old at (letter_bytes (sheet_of sheet.now) word.now) buf.new result }
 {
-    let mut i: usize = 0;
-    while i < word.len() {
-        buf[at + i] = parts::letter(sheet, wide(word[i]));
-        i += 1;
+    for i in 0..word.len() {
+        buf[at + i] = parts::letter(sheet, usize::from(word[i]));
     }
-    at + i
+    at + word.len()
 }

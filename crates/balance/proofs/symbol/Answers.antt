@@ -5,5 +5,5 @@ use Rattle.balance.proofs.symbol.Goals as goal
 pub returns-then-k-lt-LETTERS : goal.returns-then-k-lt-LETTERS
 returns-then-k-lt-LETTERS c = simp (lt-ltb _ _ c.if-k-lt-LETTERS.true)
 
-pub returns : goal.returns
-returns c = simp (le-ltb _ _ c.if-k-lt-LETTERS.false)
+pub returns-else-k-lt-LETTERS : goal.returns-else-k-lt-LETTERS
+returns-else-k-lt-LETTERS c = simp (le-ltb _ _ c.if-k-lt-LETTERS.false)

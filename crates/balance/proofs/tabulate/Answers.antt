@@ -30,32 +30,28 @@ one_more P t i n less before this = record {
     by j l (yes e) = rw (e, get_or-set_same t i n 0 (omega (arith, before.all))) this
     by j l (no e) = rw (get_or-set_other t i j n 0 e) (before.there j (lt_of_le-ne (omega arith) e))
 
-pub equations-end-requires : goal.equations-end-requires
-equations-end-requires c = c.requires
-
-pub overflow_mul-end : goal.overflow_mul-end
-overflow_mul-end c = omega (arith, c.equations-end.ensures, c.requires.1.counts_in.of_equations)
-
 pub loop-i-init : goal.loop-i-init
-loop-i-init c = (omega arith, omega (arith, c.equations-end.ensures, c.requires.1.counts_in.of_equations), none_first _)
+loop-i-init c = none_first _
+
+pub bounds-table-i : goal.bounds-table-i
+bounds-table-i c = omega (arith, c.equations-i-end.ensures, c.requires.1.counts_in.of_equations)
 
 pub surplus-requires : goal.surplus-requires
-surplus-requires c =
-    (c.requires, omega (arith, c.equations-end.ensures))
+surplus-requires c = (c.requires, omega (arith, c.equations-i-end.ensures))
 
 pub loop-i-preserved : goal.loop-i-preserved
 loop-i-preserved c =
     let l = c.loop-i in
     let byte = c.symbol.ensures in
     let here = c.surplus.ensures in
-    (omega arith, omega arith, one_more _ l.table l.i c.surplus.result (omega arith) l.invariant.2 (rw byte at here))
+    one_more _ l.table l.i c.surplus.result (omega (arith, c.equations-i-end.ensures, c.requires.1.counts_in.of_equations)) l.invariant (rw byte at here)
 
 pub returns : goal.returns
 returns c =
     let l = c.loop-i in
     let s = sheet_of c.args.sheet.now in (
-      l.invariant.2.all,
+      l.invariant.all,
       (λ j h. by_test (ltb j l.i)
-          (λ e. l.invariant.2.there j (ltb-true j l.i e))
-          (λ e. let past = ltb-false j l.i e in rw (l.invariant.2.even j past h) (even_there s (j / 14) (symbol_at (j % 14)) (omega arith)))),
+          (λ e. l.invariant.there j (ltb-true j l.i e))
+          (λ e. let past = ltb-false j l.i e in rw (l.invariant.even j past h) (even_there s (j / 14) (symbol_at (j % 14)) (omega (arith, c.equations-i-end.ensures))))),
     )

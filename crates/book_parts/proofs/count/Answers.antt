@@ -10,18 +10,16 @@ use Rattle.book_parts.proofs.count.Goals as goal
 pub bounds-book-5 : goal.bounds-book-5
 bounds-book-5 c =
     let b = c.args.book.now in
-    omega (arith, template-count-fits b (lent_bytes b c.shared_slice_known-1.given) c.requires)
+    omega (arith, template-count-fits b (lent_bytes b c.type_inv.book) c.requires)
 
-pub bounds-book-wide : goal.bounds-book-wide
-bounds-book-wide c =
+pub bounds-book-from : goal.bounds-book-from
+bounds-book-from c =
     let b = c.args.book.now in
-    let y = lent_bytes b c.shared_slice_known-1.given in
-    omega (arith, c.wide.ensures.0, letter-count-at b y c.requires, template-count-fits b y c.requires)
+    let y = lent_bytes b c.type_inv.book in
+    omega (arith, letter-count-at b y c.requires, template-count-fits b y c.requires)
 
 pub returns : goal.returns
 returns c =
     let b = c.args.book.now in
-    let y = lent_bytes b c.shared_slice_known-1.given in
-    c.wide-2.ensures.0
-    ∙ ap (λ n. byte b (6 + n)) (c.wide.ensures.0 ∙ letter-count-at b y c.requires)
-    ∙ template-count-at b y c.requires
+    let y = lent_bytes b c.type_inv.book in
+    c.from-2.ensures ∙ ap (λ n. byte b (6 + n)) (c.from.ensures ∙ letter-count-at b y c.requires) ∙ template-count-at b y c.requires

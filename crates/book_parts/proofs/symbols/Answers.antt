@@ -1,71 +1,45 @@
 -- `book_parts::symbols` meets its contract: the symbols stand after the limits and their own count. Assumes nothing.
-use mathlib.Core.Path.{◌≡◌, sym, ap, ◌∙◌}
-use mathlib.Core.List.{map}
-use Prim.Native.Nat.{◌+◌}
+use mathlib.Core.Path.{◌≡◌, ap, ap₂, ◌∙◌}
+use mathlib.Core.List.{List, map}
+use Prim.Native.Nat.{ℕ, ◌+◌, ◌-◌}
 use native.Mathlib.Omega.{arith}
 use lib.ListN.{length, get_or, take, drop, length-map}
 use Rattle.model.specs.Sheet.{symbol_byte}
 use Rattle.model.proofs.Places.{holds-take}
-use Rattle.book.specs.Book.{template, book_of}
+use Rattle.book.specs.Book.{Template, template, book_of}
 use Rattle.book.proofs.Places.{TemplateAt, this_template}
 use Rattle.book_parts.proofs.symbols.Goals as goal
-use Rattle.book_parts.proofs.symbols.Lts as lts
-use Rattle.book_parts.proofs.symbols.Reads as reads
-use Rattle.book_parts.proofs.symbols.Tie as tie
 
--- the template at the offset
-this : (c : lts.After-template_at tie.the-claims reads.Pre reads.Post) →
-    let a = c.args in
-    TemplateAt a.book.now c.template_at-at.result (template (book_of a.book.now) a.i)
-this c =
-    this_template c.args.book.now c.template_at-at.result c.args.i (book_of c.args.book.now) c.requires.1 c.template_at-at.ensures
+-- the two counts, as they were read
+counted : (b : List ℕ) (at : ℕ) (t : Template) (fields count : ℕ) → TemplateAt b at t → fields ≡ get_or b at 0 → count ≡ get_or b (at + 1 + fields) 0
+    → (fields ≡ length t.limits) × (count ≡ length t.symbols)
+counted b at t fields count h e f =
+    let n = e ∙ h.field_count in
+    (n, f ∙ ap (λ v. get_or b (at + 1 + v) 0) n ∙ h.symbol_count)
 
 pub bounds-book-at : goal.bounds-book-at
-bounds-book-at c = omega (arith, this c.before.before)
-
--- its field count
-counted : (c : lts.After-wide tie.the-claims reads.Pre reads.Post) →
-    let a = c.args in
-    c.wide-fields.result ≡ length (template (book_of a.book.now) a.i).limits
-counted c = c.wide-fields.ensures.0 ∙ (this c.before.before).field_count
-
-pub overflow_add-at : goal.overflow_add-at
-overflow_add-at c = omega (arith, this c.before.before.before)
-
-pub overflow_add-at-2 : goal.overflow_add-at-2
-overflow_add-at-2 c = omega (arith, this c.before.before.before, counted c.before)
-
-pub bounds-book-at-2 : goal.bounds-book-at-2
-bounds-book-at-2 c = omega (arith, this c.before.before.before.before, counted c.before.before)
-
--- its symbol count
-symbol_count : (c : lts.After-wide2 tie.the-claims reads.Pre reads.Post) →
-    let a = c.args in
-    c.wide-count.result ≡ length (template (book_of a.book.now) a.i).symbols
-symbol_count c =
+bounds-book-at c =
     let b = c.args.book.now in
-    c.wide-count.ensures.0 ∙ ap (λ v. get_or b (c.template_at-at.result + 1 + v) 0) (counted c.before.before) ∙ (this c.before.before.before.before).symbol_count
+    omega (arith, this_template b c.template_at-at.result c.args.i (book_of b) c.requires.1 c.template_at-at.ensures)
 
-pub overflow_add-at-3 : goal.overflow_add-at-3
-overflow_add-at-3 c = omega (arith, this c.before.before.before.before.before)
+pub bounds-book-count_at : goal.bounds-book-count_at
+bounds-book-count_at c =
+    let b = c.args.book.now in
+    omega (arith, this_template b c.template_at-at.result c.args.i (book_of b) c.requires.1 c.template_at-at.ensures)
 
-pub overflow_add-at-4 : goal.overflow_add-at-4
-overflow_add-at-4 c = omega (arith, this c.before.before.before.before.before, counted c.before.before.before)
-
-pub overflow_add-at-5 : goal.overflow_add-at-5
-overflow_add-at-5 c = omega (arith, this c.before.before.before.before.before, counted c.before.before.before)
-
-pub stretch-requires : goal.stretch-requires
-stretch-requires c = omega (arith, this c.before.before.before.before.before, counted c.before.before.before, symbol_count c.before)
+pub slice_bounds-result-end : goal.slice_bounds-result-end
+slice_bounds-result-end c =
+    let b = c.args.book.now in
+    let at = c.template_at-at.result in
+    let t = this_template b at c.args.i (book_of b) c.requires.1 c.template_at-at.ensures in
+    omega (arith, t, counted b at (template (book_of b) c.args.i) c.from.result c.from-count.result t c.from.ensures c.from-count.ensures)
 
 pub returns : goal.returns
 returns c =
-    let a = c.args in
-    let b = a.book.now in
-    let t = template (book_of b) a.i in
-    let from = c.template_at-at.result in
-    let size : c.wide-count.result ≡ length (map symbol_byte t.symbols) = symbol_count c.before.before ∙ sym (length-map t.symbols symbol_byte) in
-    c.stretch.ensures
-    ∙ ap (λ n. take n (drop (from + 1 + c.wide-fields.result + 1) b)) size
-    ∙ ap (λ v. take (length (map symbol_byte t.symbols)) (drop (from + 1 + v + 1) b)) (counted c.before.before.before.before)
-    ∙ holds-take (map symbol_byte t.symbols) (this c.before.before.before.before.before.before).holds_symbols
+    let b = c.args.book.now in
+    let at = c.template_at-at.result in
+    let u = template (book_of b) c.args.i in
+    let t = this_template b at c.args.i (book_of b) c.requires.1 c.template_at-at.ensures in
+    let k = counted b at u c.from.result c.from-count.result t c.from.ensures c.from-count.ensures in
+    let n : at + 1 + c.from.result + 1 + c.from-count.result - (at + 1 + c.from.result + 1) ≡ length (map symbol_byte u.symbols) = omega (arith, k, length-map u.symbols symbol_byte) in
+    ap₂ (λ m v. take m (drop (at + 1 + v + 1) b)) n k.0 ∙ holds-take (map symbol_byte u.symbols) t.holds_symbols

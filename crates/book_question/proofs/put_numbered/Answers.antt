@@ -1,10 +1,10 @@
 -- `book_question::put_numbered` meets its contract. The loop's invariant: the first i symbols are in their place. Assumes nothing.
-use mathlib.Core.Path.{◌≡◌, refl, ◌∙◌}
+use mathlib.Core.Path.{◌≡◌, ◌∙◌}
 use mathlib.Core.List.{List, map}
 use Prim.Native.Nat.{ℕ, ◌+◌, ◌<◌}
 use native.Mathlib.Numerals.{add-one}
 use native.Mathlib.Omega.{arith}
-use lib.ListN.{length, get_or, set, length-set, length-map, get_or-map}
+use lib.ListN.{length, get_or, set, length-map, get_or-map}
 use lib.Seq.{paste, paste-zero, paste-suc}
 use Rattle.model.proofs.Lists.{at}
 use Rattle.model.proofs.Seams.{placed_paste}
@@ -20,30 +20,18 @@ turn n d at w i room more =
 pub loop-i-init : goal.loop-i-init
 loop-i-init c =
     let a = c.args in
-    (omega arith, refl, paste-zero a.buf.now a.at (map (numbered a.n) a.symbols.now))
+    paste-zero a.buf.now a.at (map (numbered a.n) a.symbols.now)
 
 pub numbered_after-requires : goal.numbered_after-requires
 numbered_after-requires c =
     let small = at (λ x. x < 128 + 3) c.args.symbols.now c.loop-i.i 0 c.requires.1 c.loop-i-test.true in
-    omega (arith, c.requires.0)
-
-pub overflow_add-buf : goal.overflow_add-buf
-overflow_add-buf c = omega (arith, c.requires)
-
-pub bounds-buf-at : goal.bounds-buf-at
-bounds-buf-at c = omega (arith, c.requires)
+    omega arith
 
 pub loop-i-preserved : goal.loop-i-preserved
 loop-i-preserved c =
     let l = c.loop-i in
     let a = c.args in
-    (omega arith, simp length-set l.invariant.1, rw (l.invariant.2, c.numbered_after.ensures) (turn a.n a.buf.now a.at a.symbols.now l.i (omega (arith, c.requires)) c.loop-i-test.true))
-
-pub overflow_add-result : goal.overflow_add-result
-overflow_add-result c = omega (arith, c.requires)
-
-pub shape_of-buf : goal.shape_of-buf
-shape_of-buf c = c.loop-i.invariant.1
+    rw (l.invariant, c.numbered_after.ensures) (turn a.n a.buf.now a.at a.symbols.now l.i (omega arith) c.loop-i-test.true)
 
 pub returns : goal.returns
 returns c =
@@ -51,4 +39,4 @@ returns c =
     let w = map (numbered a.n) a.symbols.now in
     let n = length-map a.symbols.now (numbered a.n) in
     let e : c.loop-i.i ≡ length w = omega arith in
-    (omega arith, c.loop-i.invariant.2 ∙ rw e (placed_paste a.buf.now w a.at))
+    (omega arith, c.loop-i.invariant ∙ rw e (placed_paste a.buf.now w a.at))

@@ -1,13 +1,8 @@
 use mathlib.Core.Path.{◌≡◌}
 use mathlib.Core.List.{map}
-use Prim.Native.Nat.{◌-◌, ◌≤◌}
-use lib.ListN.{length}
 use lib.Seq.{paste}
 use Rattle.book_question.specs.Bytes.{numbered}
 use Rattle.book_question.proofs.put_numbered.Given as goal
 
 abbrev pub invariant-loop-i : goal.invariant-loop-i
-invariant-loop-i l = (l.i ≤ length l.symbols) × (length l.buf ≡ length l.initial.buf) × (l.buf ≡ paste l.initial.buf l.at (map (numbered l.n) l.symbols) l.i)
-
-abbrev pub decreases-loop-i : goal.decreases-loop-i
-decreases-loop-i l = length l.symbols - l.i
+invariant-loop-i l = l.buf ≡ paste l.initial.buf l.at (map (numbered l.n) l.symbols) l.i

@@ -4,4 +4,4 @@ use Rattle.bounds.specs.Bounds.{sum_of}
 use Rattle.bounds.proofs.+tighten.Given as goal
 
 abbrev pub decreases-tighten : goal.decreases-tighten
-decreases-tighten l = sum_of l.hi - sum_of l.lo
+decreases-tighten l = sum_of l.ranges.hi - sum_of l.ranges.lo

@@ -1,16 +1,24 @@
--- `bounds::sum` meets its contract. Assumes nothing.
+-- `bounds::sum` meets its contract. The loop's invariant: the sum of the lengths so far. Assumes nothing.
+use mathlib.Core.Path.{◌≡◌}
 use native.Mathlib.Omega.{arith}
+use Rattle.std.proofs.Common.{add-one}
 use Rattle.model.specs.Lists.{total}
 use Rattle.bounds.specs.Bounds.{sum_of}
 use Rattle.bounds.proofs.sum.Goals as goal
 
+pub loop-x-init : goal.loop-x-init
+unfolding total
+loop-x-init c = (omega arith, omega arith)
+
+pub overflow_add-sum : goal.overflow_add-sum
+overflow_add-sum c = let fits = c.loop-x-test.element_fits in omega arith
+
+pub loop-x-preserved : goal.loop-x-preserved
+unfolding total
+loop-x-preserved c = let fits = c.loop-x-test.element_fits in rw add-one (omega arith, omega arith)
+
 pub returns : goal.returns
-unfolding sum_of total
+unfolding sum_of
 returns c =
-    let a = c.broad.ensures in
-    let b = c.broad-2.ensures in
-    let d = c.broad-3.ensures in
-    let e = c.broad-4.ensures in
-    let f = c.broad-5.ensures in
-    let g = c.broad-6.ensures in
-    (omega (arith, a.0, b.0, d.0, e.0, f.0, g.0), omega (arith, a.1, b.1, d.1, e.1, f.1, g.1))
+    let all : c.loop-x.x-index ≡ 6 = omega arith in
+    (rw (← all) c.loop-x.invariant.0, omega arith)

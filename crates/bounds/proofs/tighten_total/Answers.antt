@@ -6,4 +6,4 @@ use Rattle.bounds.proofs.tighten_total.Goals as goal
 pub returns : goal.returns
 returns c =
     let a = c.args in
-    subst (λ xs. Tightened (ClosedBoth xs 2 a.rows.now a.count) a.lo a.hi c.tighten.result) c.total_rows-totals.ensures c.tighten.ensures
+    subst (λ xs. Tightened (ClosedBoth xs 2 a.rows.now a.count) a.ranges.lo a.ranges.hi c.tighten.result) c.total_rows-totals.ensures c.tighten.ensures

@@ -20,12 +20,12 @@ use Rattle.c_sheet.proofs.spell.Tie as tie
 
 -- the answer is a length, of a text that was spelled
 answers : (c : lts.Past-After-known_told tie.the-claims reads.Pre reads.Post) →
-    sized (spelling c.args.sheet.now c.args.pair c.args.side c.args.filling.now (length c.args.text.now)) ≡ finished (c.in-Length.n ∷ [])
+    sized (spelling c.args.sheet.now c.args.pair c.args.side c.args.filling.now (length c.args.text.now)) ≡ finished (c.in-Ok.n ∷ [])
 answers c =
     let at-spell = c.spell in
-    sym at-spell.ensures.0 ∙ ap spelled c.in-Length.is
+    sym at-spell.ensures.0 ∙ ap spelled c.in-Ok.is
 
-small : (c : lts.Past-After-known_told tie.the-claims reads.Pre reads.Post) → c.in-Length.n ≤ 24
+small : (c : lts.Past-After-known_told tie.the-claims reads.Pre reads.Post) → c.in-Ok.n ≤ 24
 small c =
     let at-shared-slice-known = c.shared_slice_known-1 in
     let a = c.args in
@@ -36,15 +36,15 @@ small c =
 pub overflow_cast-result : goal.overflow_cast-result
 overflow_cast-result c = record { sfits = omega (arith, small c.before) }
 
-pub returns-in-Length : goal.returns-in-Length
-returns-in-Length c =
+pub returns-in-Ok : goal.returns-in-Ok
+returns-in-Ok c =
     let at-spell = c.spell in
-    (to_z_pos w64 c.in-Length.n (omega (arith, small c.before)) ∙ sym (ap returned_number (answers c.before)), at-spell.ensures.1)
+    (to_z_pos w64 c.in-Ok.n (omega (arith, small c.before)) ∙ sym (ap returned_number (answers c.before)), at-spell.ensures.1)
 
-pub returns-in-Refused : goal.returns-in-Refused
-returns-in-Refused c =
+pub returns-in-Err : goal.returns-in-Err
+returns-in-Err c =
     let at-spell = c.spell in
     let a = c.args in
-    let f = c.in-Refused.refusal in
-    let e : sized (spelling a.sheet.now a.pair a.side a.filling.now (length a.text.now)) ≡ refused (number_of f) = sym at-spell.ensures.0 ∙ ap spelled c.in-Refused.is in
-    (minus_told c.number.ensures c.minus.ensures ∙ sym (ap returned_number e), at-spell.ensures.1)
+    let f = c.in-Err.refusal in
+    let e : sized (spelling a.sheet.now a.pair a.side a.filling.now (length a.text.now)) ≡ refused (number_of f) = sym at-spell.ensures.0 ∙ ap spelled c.in-Err.is in
+    (minus_told c.from.ensures c.minus.ensures ∙ sym (ap returned_number e), at-spell.ensures.1)

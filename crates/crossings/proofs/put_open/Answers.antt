@@ -33,91 +33,91 @@ module _ (l down here x y : ℕ) where
 -- what is still to be written, and the codes of it
 module _ (start : lts.Start tie.the-claims reads.Pre reads.Post) where
   abbrev by_side : Side → List ℕ
-  by_side v = open_lines start.args.l start.args.down start.args.here start.args.x v start.args.y
+  by_side v = open_lines start.args.crossing.l start.args.crossing.down start.args.crossing.here start.args.x v start.args.right.code
 
   abbrev Still : List ℕ → List (List ℕ) → List ℕ → ℕ → Type 0
-  Still = Writing start.args.buf.now start.args.at (by_side (side_of start.args.v))
+  Still = Writing start.args.buf.now start.args.at (by_side (side_of start.args.right.byte))
 
   abbrev not-here : ℕ
-  not-here = start.args.here + 1
+  not-here = start.args.crossing.here + 1
 
   abbrev past-both : ℕ
-  past-both = start.args.here + start.args.down + 2
+  past-both = start.args.crossing.here + start.args.crossing.down + 2
 
   abbrev x-blank : ℕ
-  x-blank = start.args.x + 2 * start.args.l
+  x-blank = start.args.x + 2 * start.args.crossing.l
 
   abbrev y-blank : ℕ
-  y-blank = start.args.y + 2 * start.args.l
+  y-blank = start.args.right.code + 2 * start.args.crossing.l
 
   abbrev unlike : ℕ → ℕ → List ℕ
-  unlike n k = each (up_to k) (unlike_line start.args.here start.args.x n)
+  unlike n k = each (up_to k) (unlike_line start.args.crossing.here start.args.x n)
 
   abbrev matches : List ℕ
-  matches = each (up_to start.args.l) (match_line start.args.l start.args.here start.args.x start.args.y)
+  matches = each (up_to start.args.crossing.l) (match_line start.args.crossing.l start.args.crossing.here start.args.x start.args.right.code)
 
 abbrev start_of : lts.After-clause_line tie.the-claims reads.Pre reads.Post → lts.Start tie.the-claims reads.Pre reads.Post
-start_of c = c.before.before.before.before
+start_of c = c.before.before.before.before.before.before.before
 
 -- after B, by the side
-after-b : (c : lts.After-clause_line tie.the-claims reads.Pre reads.Post) (v : Side) (p : List ℕ) (others : List (List ℕ)) → side_of (start_of c).args.v ≡ v
-    → by_side (start_of c) v ≡ joined (line-b (start_of c).args.l (start_of c).args.down (start_of c).args.here (start_of c).args.x (start_of c).args.y) (p ∷ others)
+after-b : (c : lts.After-clause_line tie.the-claims reads.Pre reads.Post) (v : Side) (p : List ℕ) (others : List (List ℕ)) → side_of (start_of c).args.right.byte ≡ v
+    → by_side (start_of c) v ≡ joined (line-b (start_of c).args.crossing.l (start_of c).args.crossing.down (start_of c).args.crossing.here (start_of c).args.x (start_of c).args.right.code) (p ∷ others)
     → Still (start_of c) p others c.clause_line-b.new.buf c.clause_line-b.result
 after-b c v p others e w = next (begin _ _ _ _ (p ∷ others) (ap (by_side (start_of c)) e ∙ w) (start_of c).requires.2) c.clause_line-b.ensures c.clause_line-b.auto.buf
 
 abbrev b-of : lts.After-slice_known2 tie.the-claims reads.Pre reads.Post → lts.After-clause_line tie.the-claims reads.Pre reads.Post
 b-of c = c.before.before
 
-ended : (c : lts.Then1 tie.the-claims reads.Pre reads.Post) → Still (start_of (b-of c.before)) (codes_line (not-here (start_of (b-of c.before)) ∷ x-blank (start_of (b-of c.before)) ∷ [])) [] (b-of c.before).clause_line-b.new.buf (b-of c.before).clause_line-b.result
+ended : (c : lts.Then1 tie.the-claims reads.Pre reads.Post) → Still (start_of (b-of c.before.before)) (codes_line (not-here (start_of (b-of c.before.before)) ∷ x-blank (start_of (b-of c.before.before)) ∷ [])) [] (b-of c.before.before).clause_line-b.new.buf (b-of c.before.before).clause_line-b.result
 unfolding joined
-ended c = after-b (b-of c.before) _ _ _ (says_used _ c.if-v-eq-USED.true) refl
+ended c = after-b (b-of c.before.before) _ _ _ (says_used _ c.if-right-eq-USED.true) refl
 
 -- D, and E before the letter and after it
-abbrev b-wide : lts.After-wide tie.the-claims reads.Pre reads.Post → lts.After-clause_line tie.the-claims reads.Pre reads.Post
-b-wide c = b-of c.before.before.before
+abbrev b-wide : lts.After-from tie.the-claims reads.Pre reads.Post → lts.After-clause_line tie.the-claims reads.Pre reads.Post
+b-wide c = b-of c.before.before.before.before.before
 
-abbrev start-wide : lts.After-wide tie.the-claims reads.Pre reads.Post → lts.Start tie.the-claims reads.Pre reads.Post
+abbrev start-wide : lts.After-from tie.the-claims reads.Pre reads.Post → lts.Start tie.the-claims reads.Pre reads.Post
 start-wide c = start_of (b-wide c)
 
-letter : (c : lts.After-wide tie.the-claims reads.Pre reads.Post) → Still (start-wide c) (codes_line (not-here (start-wide c) ∷ x-blank (start-wide c) ∷ past-both (start-wide c) ∷ []))
-    (unlike (start-wide c) 0 c.wide-n.result ∷ unlike (start-wide c) (c.wide-n.result + 1) ((start-wide c).args.l - c.wide-n.result - 1) ∷ []) (b-wide c).clause_line-b.new.buf (b-wide c).clause_line-b.result
+letter : (c : lts.After-from tie.the-claims reads.Pre reads.Post) → Still (start-wide c) (codes_line (not-here (start-wide c) ∷ x-blank (start-wide c) ∷ past-both (start-wide c) ∷ []))
+    (unlike (start-wide c) 0 c.from-n.result ∷ unlike (start-wide c) (c.from-n.result + 1) ((start-wide c).args.crossing.l - c.from-n.result - 1) ∷ []) (b-wide c).clause_line-b.new.buf (b-wide c).clause_line-b.result
 unfolding joined
-letter c = after-b (b-wide c) _ _ _ (says_letter _ c.if-v-lt-FIRST_PLACE.true ∙ ap at_letter (sym c.wide-n.ensures.0)) refl
+letter c = after-b (b-wide c) _ _ _ (says_letter _ c.if-right-lt-FIRST_PLACE.true ∙ ap at_letter (sym c.from-n.ensures)) refl
 
 -- the letter is one of l
-inside : (c : lts.After-wide tie.the-claims reads.Pre reads.Post) → c.wide-n.result < (start-wide c).args.l
-inside c = rw c.wide-n.ensures.0 (subst (SideIn (start-wide c).args.l) (says_letter _ c.if-v-lt-FIRST_PLACE.true) (start-wide c).requires.1)
+inside : (c : lts.After-from tie.the-claims reads.Pre reads.Post) → c.from-n.result < (start-wide c).args.crossing.l
+inside c = rw c.from-n.ensures (subst (SideIn (start-wide c).args.crossing.l) (says_letter _ c.if-right-lt-FIRST_PLACE.true) (start-wide c).requires.1)
 
-abbrev wide-d : lts.After-clause_line3 tie.the-claims reads.Pre reads.Post → lts.After-wide tie.the-claims reads.Pre reads.Post
+abbrev wide-d : lts.After-clause_line3 tie.the-claims reads.Pre reads.Post → lts.After-from tie.the-claims reads.Pre reads.Post
 wide-d c = c.before.before.before
 
-after-d : (c : lts.After-clause_line3 tie.the-claims reads.Pre reads.Post) → Still (start-wide (wide-d c)) (unlike (start-wide (wide-d c)) 0 (wide-d c).wide-n.result)
-    (unlike (start-wide (wide-d c)) ((wide-d c).wide-n.result + 1) ((start-wide (wide-d c)).args.l - (wide-d c).wide-n.result - 1) ∷ []) c.clause_line-d.new.buf c.clause_line-d.result
+after-d : (c : lts.After-clause_line3 tie.the-claims reads.Pre reads.Post) → Still (start-wide (wide-d c)) (unlike (start-wide (wide-d c)) 0 (wide-d c).from-n.result)
+    (unlike (start-wide (wide-d c)) ((wide-d c).from-n.result + 1) ((start-wide (wide-d c)).args.crossing.l - (wide-d c).from-n.result - 1) ∷ []) c.clause_line-d.new.buf c.clause_line-d.result
 after-d c = next (letter (wide-d c)) c.clause_line-d.ensures c.clause_line-d.auto.buf
 
 abbrev d-of : lts.After-put_unlike tie.the-claims reads.Pre reads.Post → lts.After-clause_line3 tie.the-claims reads.Pre reads.Post
 d-of c = c.before.before.before.before
 
-abbrev wide-e : lts.After-put_unlike tie.the-claims reads.Pre reads.Post → lts.After-wide tie.the-claims reads.Pre reads.Post
+abbrev wide-e : lts.After-put_unlike tie.the-claims reads.Pre reads.Post → lts.After-from tie.the-claims reads.Pre reads.Post
 wide-e c = wide-d (d-of c)
 
-after-e : (c : lts.After-put_unlike tie.the-claims reads.Pre reads.Post) → Still (start-wide (wide-e c)) (unlike (start-wide (wide-e c)) ((wide-e c).wide-n.result + 1) ((start-wide (wide-e c)).args.l - (wide-e c).wide-n.result - 1)) [] c.put_unlike-e.new.buf c.put_unlike-e.result
+after-e : (c : lts.After-put_unlike tie.the-claims reads.Pre reads.Post) → Still (start-wide (wide-e c)) (unlike (start-wide (wide-e c)) ((wide-e c).from-n.result + 1) ((start-wide (wide-e c)).args.crossing.l - (wide-e c).from-n.result - 1)) [] c.put_unlike-e.new.buf c.put_unlike-e.result
 after-e c = next (after-d (d-of c)) c.put_unlike-e.ensures c.put_unlike-e.auto.buf
 
 -- C, D and E where a place is on the right
 abbrev b-place : lts.Else2 tie.the-claims reads.Pre reads.Post → lts.After-clause_line tie.the-claims reads.Pre reads.Post
-b-place c = b-of c.before.before
+b-place c = b-of c.before.before.before.before
 
 abbrev start-place : lts.Else2 tie.the-claims reads.Pre reads.Post → lts.Start tie.the-claims reads.Pre reads.Post
 start-place c = start_of (b-place c)
 
-place : (c : lts.Else2 tie.the-claims reads.Pre reads.Post) → Still (start-place c) (codes_line (not-here (start-place c) ∷ x-blank (start-place c) ∷ (y-blank (start-place c) + 1) ∷ ((start-place c).args.here + 2) ∷ []))
+place : (c : lts.Else2 tie.the-claims reads.Pre reads.Post) → Still (start-place c) (codes_line (not-here (start-place c) ∷ x-blank (start-place c) ∷ (y-blank (start-place c) + 1) ∷ ((start-place c).args.crossing.here + 2) ∷ []))
     (codes_line (not-here (start-place c) ∷ x-blank (start-place c) ∷ y-blank (start-place c) ∷ past-both (start-place c) ∷ []) ∷ matches (start-place c) ∷ []) (b-place c).clause_line-b.new.buf (b-place c).clause_line-b.result
 unfolding joined
-place c = after-b (b-place c) _ _ _ (says_field _ c.if-v-lt-FIRST_PLACE.false c.if-v-eq-USED.false) refl
+place c = after-b (b-place c) _ _ _ (says_field _ c.if-right-lt-FIRST_PLACE.false c.if-right-eq-USED.false) refl
 
 abbrev place-c : lts.After-clause_line4 tie.the-claims reads.Pre reads.Post → lts.Else2 tie.the-claims reads.Pre reads.Post
-place-c c = c.before.before.before
+place-c c = c.before.before.before.before.before.before
 
 after-c : (c : lts.After-clause_line4 tie.the-claims reads.Pre reads.Post) → Still (start-place (place-c c)) (codes_line (not-here (start-place (place-c c)) ∷ x-blank (start-place (place-c c)) ∷ y-blank (start-place (place-c c)) ∷ past-both (start-place (place-c c)) ∷ []))
     (matches (start-place (place-c c)) ∷ []) c.clause_line-c.new.buf c.clause_line-c.result
@@ -129,35 +129,17 @@ c-of c = c.before.before.before.before.before
 after-cd : (c : lts.After-clause_line5 tie.the-claims reads.Pre reads.Post) → Still (start-place (place-c (c-of c))) (matches (start-place (place-c (c-of c)))) [] c.clause_line-d-2.new.buf c.clause_line-d-2.result
 after-cd c = next (after-c (c-of c)) c.clause_line-d-2.ensures c.clause_line-d-2.auto.buf
 
-pub overflow_add-not_here : goal.overflow_add-not_here
-overflow_add-not_here c = omega (arith, c.requires.0)
-
-pub overflow_mul-x_blank : goal.overflow_mul-x_blank
-overflow_mul-x_blank c = omega (arith, c.requires.0)
-
-pub overflow_add-x_blank : goal.overflow_add-x_blank
-overflow_add-x_blank c = omega (arith, c.requires.0)
-
-pub overflow_add-past_left : goal.overflow_add-past_left
-overflow_add-past_left c = omega (arith, c.requires.0)
-
-pub overflow_add-x_blank-2 : goal.overflow_add-x_blank-2
-overflow_add-x_blank-2 c = omega (arith, c.requires.0)
-
 pub clause_line-b-requires : goal.clause_line-b-requires
 clause_line-b-requires c =
     let a = c.args in
-    omega (arith, first_short a.l a.down a.here a.x a.y (side_of a.v), c.requires.2)
+    omega (arith, first_short a.crossing.l a.crossing.down a.crossing.here a.x a.right.code (side_of a.right.byte), c.requires.2)
 
 pub clause_line-requires : goal.clause_line-requires
 clause_line-requires c = fits (ended c.before.before)
 
-pub returns-then-v-eq-USED : goal.returns-then-v-eq-USED
-returns-then-v-eq-USED c =
+pub returns-then-right-eq-USED : goal.returns-then-right-eq-USED
+returns-then-right-eq-USED c =
     ends _ _ (ended c.before.before.before.before.before.before) c.clause_line.ensures c.clause_line.auto.buf
-
-pub overflow_add-past_both : goal.overflow_add-past_both
-overflow_add-past_both c = omega (arith, (start_of (b-of c.before.before)).requires.0)
 
 pub clause_line-d-requires : goal.clause_line-d-requires
 clause_line-d-requires c = fits (letter c.before.before)
@@ -167,40 +149,17 @@ put_unlike-e-requires c =
     let few = (start-wide (wide-d c.before.before.before)).requires.0 in
     (few.at_here, few.at_left, omega (arith, inside (wide-d c.before.before.before), few.letters), fits (after-d c.before.before.before))
 
-pub overflow_add-n : goal.overflow_add-n
-overflow_add-n c =
-    let at_wide = wide-e c.before.before.before in
-    omega (arith, inside at_wide, (start-wide at_wide).requires.0.letters)
-
-pub overflow_sub-l : goal.overflow_sub-l
-overflow_sub-l c = omega (arith, inside (wide-e c.before.before.before))
-
-pub overflow_sub-l-then-v-lt-FIRST_PLACE : goal.overflow_sub-l-then-v-lt-FIRST_PLACE
-overflow_sub-l-then-v-lt-FIRST_PLACE c = omega (arith, inside (wide-e c.before.before.before))
-
 pub put_unlike-requires : goal.put_unlike-requires
 put_unlike-requires c =
-    let few = (start-wide (wide-e c.before.before.before)).requires.0 in
-    (few.at_here, few.at_left, omega (arith, inside (wide-e c.before.before.before), few.letters), fits (after-e c.before.before.before))
+    let few = (start-wide (wide-e c.before.before.before.before)).requires.0 in
+    (few.at_here, few.at_left, omega (arith, inside (wide-e c.before.before.before.before), few.letters), fits (after-e c.before.before.before.before))
 
-pub returns-then-v-lt-FIRST_PLACE : goal.returns-then-v-lt-FIRST_PLACE
-returns-then-v-lt-FIRST_PLACE c =
-    ends _ _ (after-e c.before.before.before.before.before.before.before) c.put_unlike.ensures c.put_unlike.auto.buf
-
-pub overflow_mul-y_blank : goal.overflow_mul-y_blank
-overflow_mul-y_blank c = omega (arith, (start-place c.before).requires.0)
-
-pub overflow_add-y_blank : goal.overflow_add-y_blank
-overflow_add-y_blank c = omega (arith, (start-place c.before).requires.0)
-
-pub overflow_add-y_blank-2 : goal.overflow_add-y_blank-2
-overflow_add-y_blank-2 c = omega (arith, (start-place c.before).requires.0)
-
-pub overflow_add-here : goal.overflow_add-here
-overflow_add-here c = omega (arith, (start-place c.before).requires.0)
+pub returns-then-right-lt-FIRST_PLACE : goal.returns-then-right-lt-FIRST_PLACE
+returns-then-right-lt-FIRST_PLACE c =
+    ends _ _ (after-e c.before.before.before.before.before.before.before.before) c.put_unlike.ensures c.put_unlike.auto.buf
 
 pub clause_line-c-requires : goal.clause_line-c-requires
-clause_line-c-requires c = fits (place c.before.before)
+clause_line-c-requires c = fits (place c.before.before.before.before.before)
 
 pub clause_line-d-requires-2 : goal.clause_line-d-requires-2
 clause_line-d-requires-2 c = fits (after-c c.before.before.before.before)

@@ -16,51 +16,40 @@ use Rattle.calls.proofs.Decoded.{decoding-place, decoding-blank, decoding_fails,
 use Rattle.calls.proofs.Operations.{keeps_all, hands_values}
 use Rattle.fields.specs.Memory.{texts_of}
 use Rattle.decoding.proofs.hand_over.Goals as goal
-use Rattle.decoding.proofs.hand_over.Lts as lts
-use Rattle.decoding.proofs.hand_over.Reads as reads
-use Rattle.decoding.proofs.hand_over.Tie as tie
 
-pub returns-then-not-all_pass : goal.returns-then-not-all_pass
-returns-then-not-all_pass c =
-    let single = sym c.all_pass.ensures ∙ not-true _ c.if-not-all_pass.true-raw in
+pub returns-then-not-all_single : goal.returns-then-not-all_single
+returns-then-not-all_single c =
+    let single = sym c.all_single.ensures ∙ c.if-not-all_single.true in
     keeps_all 37 c.args.buf.now (decoding-place (sheet_of c.args.sheet.now) (truth c.args.marks.now) single)
 
--- every place has one value, no letter stands after a blank, and what is spelled solves the sheet or does not
-ones : (c : lts.Else1 tie.the-claims reads.Pre reads.Post) →
-    all_single (sheet_of c.args.sheet.now) (truth c.args.marks.now) ≡ true
-ones c = sym c.all_pass.ensures ∙ not-false _ c.if-not-all_pass.false-raw
-
-pub returns-then-not-all_pass-2 : goal.returns-then-not-all_pass-2
-returns-then-not-all_pass-2 c =
-    let last = sym c.all_pass-2.ensures ∙ not-true _ c.if-not-all_pass-2.true-raw in
-    keeps_all 38 c.args.buf.now (decoding-blank (sheet_of c.args.sheet.now) (truth c.args.marks.now) (ones c.before.before.before) last)
-
-lasts : (c : lts.Else2 tie.the-claims reads.Pre reads.Post) →
-    none_after_blank (sheet_of c.args.sheet.now) (truth c.args.marks.now) ≡ true
-lasts c = sym c.all_pass-2.ensures ∙ not-false _ c.if-not-all_pass-2.false-raw
+pub returns-then-not-none_after_blank : goal.returns-then-not-none_after_blank
+returns-then-not-none_after_blank c =
+    let ones = sym c.all_single.ensures ∙ c.if-not-all_single.false in
+    let last = sym c.none_after_blank.ensures ∙ c.if-not-none_after_blank.true in
+    keeps_all 38 c.args.buf.now (decoding-blank (sheet_of c.args.sheet.now) (truth c.args.marks.now) ones last)
 
 pub returns-then-not-solves : goal.returns-then-not-solves
 returns-then-not-solves c =
     let s = sheet_of c.args.sheet.now in
-    let fails = ap (word.solves s) (sym c.spelled-g.ensures.1) ∙ sym c.solves.ensures ∙ not-true _ c.if-not-solves.true-raw in
-    keeps_all 39 c.args.buf.now (decoding_fails s (truth c.args.marks.now) (ones c.before.before.before.before.before.before) (lasts c.before.before.before.before) fails)
+    let ones = sym c.all_single.ensures ∙ c.if-not-all_single.false in
+    let lasts = sym c.none_after_blank.ensures ∙ c.if-not-none_after_blank.false in
+    let fails = ap (word.solves s) (sym c.spelled-g.ensures.1) ∙ sym c.solves.ensures ∙ c.if-not-solves.true in
+    keeps_all 39 c.args.buf.now (decoding_fails s (truth c.args.marks.now) ones lasts fails)
 
 pub returns : goal.returns
 returns c =
-    let at_store = c.before.before.before in
-    let at_fields = at_store.before in
-    let at-if3 = at_fields.before.before in
-    let at-spelled = at-if3.before.before in
-    let s = sheet_of at-spelled.args.sheet.now in
-    let w = truth at-spelled.args.marks.now in
-    let buf = at-spelled.args.buf.now in
-    let g = at-spelled.spelled-g.result in
-    let means = at-spelled.spelled-g.ensures.1 in
-    let solved = ap (word.solves s) (sym means) ∙ sym at-if3.solves.ensures ∙ not-false _ at-if3.if-not-solves.false-raw in
-    let handed = hands_values (encode_filling (assignment.spelled s w)) buf (decoding_hands s w (ones at-spelled.before.before.before) (lasts at-spelled.before) solved) in
-    let sized = spelled-sized s at-spelled.requires.0.0.1 w in
-    let bytes = at_store.store.ensures
-    ∙ ap (λ k. encode_filling (take k (texts_of g)) ++ drop (9 * k) buf) at_fields.fields.ensures
+    let s = sheet_of c.args.sheet.now in
+    let w = truth c.args.marks.now in
+    let buf = c.args.buf.now in
+    let g = c.spelled-g.result in
+    let means = c.spelled-g.ensures.1 in
+    let ones = sym c.all_single.ensures ∙ c.if-not-all_single.false in
+    let lasts = sym c.none_after_blank.ensures ∙ c.if-not-none_after_blank.false in
+    let solved = ap (word.solves s) (sym means) ∙ sym c.solves.ensures ∙ c.if-not-solves.false in
+    let handed = hands_values (encode_filling (assignment.spelled s w)) buf (decoding_hands s w ones lasts solved) in
+    let sized = spelled-sized s c.requires.0.0.1 w in
+    let bytes = c.store.ensures
+    ∙ ap (λ k. encode_filling (take k (texts_of g)) ++ drop (9 * k) buf) c.fields.ensures
     ∙ ap (λ (h : word.Substitution). encode_filling h ++ drop (9 * length s.limits) buf) means
     ∙ ap (λ k. encode_filling (assignment.spelled s w) ++ drop k buf) (sym sized) in
     (handed.0, bytes ∙ handed.1)

@@ -1,6 +1,5 @@
--- `dimacs::put_literals` meets its contract. The loop's invariant: the first i literals have been written. Assumes nothing.
+-- `dimacs::put_literals` meets its contract. The loop's invariant: the first literals have been written. Assumes nothing.
 use mathlib.Core.Path.{◌≡◌, sym, subst}
-use Prim.Native.Nat.{◌-◌}
 use native.Mathlib.Omega.{arith}
 use lib.ListN.{get_or, take}
 use lib.Seq.{take_all}
@@ -11,37 +10,28 @@ use Rattle.dimacs.specs.Codes.{code_bytes}
 use Rattle.dimacs.proofs.Laws.{codes_room}
 use Rattle.dimacs.proofs.put_literals.Goals as goal
 
-pub loop-i-init : goal.loop-i-init
+pub loop-code-init : goal.loop-code-init
 unfolding each
-loop-i-init c = (omega arith, nothing c.args.buf.now c.args.at)
+loop-code-init c = nothing c.args.buf.now c.args.at
 
 pub put_literal-past-requires : goal.put_literal-past-requires
 put_literal-past-requires c =
-    let l = c.loop-i in
-    let room = codes_room c.args.codes.now l.i c.loop-i-test.true in
-    omega (arith, l.invariant.1, c.requires)
+    let room = codes_room c.args.codes.now c.loop-code.code-index c.loop-code-test.true in
+    omega (arith, c.loop-code.invariant, c.requires)
 
-pub loop-i-preserved : goal.loop-i-preserved
-loop-i-preserved c =
-    let after-put = c.before.before.before in
-    let at-loop = after-put.before.before.before.before in
-    let codes = at-loop.args.codes.now in
-    let l = at-loop.loop-i in
-    let put = after-put.put_literal-past in
-    let test = after-put.loop-i-test.true in
-    let room = codes_room codes l.i test in
-    let q = code_bytes (get_or codes l.i 0) in
-    let next = more q put.new.buf put.result l.invariant.1 put.ensures put.auto.buf (omega (arith, at-loop.requires)) in
-    let e = each_next code_bytes codes l.i 0 test in
-    (omega arith, subst (λ p. Written at-loop.args.buf.now at-loop.args.at p put.new.buf put.result) (sym e) next)
-
-pub shape_of-buf : goal.shape_of-buf
-shape_of-buf c = c.loop-i.invariant.1.long
+pub loop-code-preserved : goal.loop-code-preserved
+loop-code-preserved c =
+    let l = c.loop-code in
+    let codes = c.args.codes.now in
+    let put = c.put_literal-past in
+    let test = c.loop-code-test.true in
+    let room = codes_room codes l.code-index test in
+    let next = more (code_bytes (get_or codes l.code-index 0)) put.new.buf put.result l.invariant put.ensures put.auto.buf (omega (arith, c.requires)) in
+    subst (λ p. Written c.args.buf.now c.args.at p put.new.buf put.result) (sym (each_next code_bytes codes l.code-index 0 test)) next
 
 pub returns : goal.returns
 returns c =
-    let a = c.args in
-    let l = c.loop-i in
-    let e : take l.i a.codes.now ≡ a.codes.now = take_all l.i a.codes.now (omega arith) in
-    let w = subst (λ xs. Written a.buf.now a.at (each xs code_bytes) l.buf l.past) e l.invariant.1 in
+    let l = c.loop-code in
+    let e : take l.code-index c.args.codes.now ≡ c.args.codes.now = take_all l.code-index c.args.codes.now (omega arith) in
+    let w = subst (λ xs. Written c.args.buf.now c.args.at (each xs code_bytes) l.buf l.past) e l.invariant in
     (w.past, w.holds)

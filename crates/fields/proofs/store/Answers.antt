@@ -1,6 +1,5 @@
 -- `fields::store` meets its contract. The loop's invariant: the bytes of the first f fields stand at the front, what follows is as before. Assumes nothing.
 use mathlib.Core.Path.{◌≡◌, refl}
-use Prim.Native.Nat.{◌-◌}
 use native.Mathlib.Omega.{arith}
 use lib.ListN.{length-append, length-drop}
 use Rattle.model.proofs.Seams.{tail_lent}
@@ -9,7 +8,7 @@ use Rattle.fields.proofs.store.Goals as goal
 
 pub loop-f-init : goal.loop-f-init
 unfolding memory_bytes
-loop-f-init c = (omega arith, refl, refl)
+loop-f-init c = (refl, refl)
 
 pub store_field-requires : goal.store_field-requires
 store_field-requires c = rw tail_lent (simp length-drop (omega arith))
@@ -19,14 +18,14 @@ loop-f-preserved c =
     let at-start = c.before.before.before.before.before.before.before.before.before in
     let at-loop = c.loop-f in
     let at-store-field = c.store_field in
-    let t = store_turn at-start.args.buf.now at-start.args.g at-loop.buf at-store-field.new.buf at-loop.f at-loop.invariant.2 at-store-field.ensures in
-    (omega arith, rw t (simp (length-append, length-drop, length_memory) (omega (arith, at-start))), t)
+    let t = store_turn at-start.args.buf.now at-start.args.g at-loop.buf at-store-field.new.buf at-loop.f at-loop.invariant.1 at-store-field.ensures in
+    (rw t (simp (length-append, length-drop, length_memory) (omega (arith, at-start))), t)
 
 pub shape_of-buf : goal.shape_of-buf
-shape_of-buf c = c.loop-f.invariant.1
+shape_of-buf c = c.loop-f.invariant.0
 
 pub returns : goal.returns
 returns c =
     let e : c.loop-f.f ≡ c.args.n = omega arith in
     let bytes = memory_encodes c.args.n c.args.g c.requires.0 (omega (arith, c.requires)) in
-    rw (e, bytes) at c.loop-f.invariant.2
+    rw (e, bytes) at c.loop-f.invariant.1

@@ -1,12 +1,9 @@
 use mathlib.Core.Path.{◌≡◌}
 use mathlib.Core.List.{◌++◌}
-use Prim.Native.Nat.{◌-◌, ◌*◌, ◌≤◌}
+use Prim.Native.Nat.{◌*◌}
 use lib.ListN.{length, drop}
 use Rattle.fields.proofs.Laws.{memory_bytes}
 use Rattle.fields.proofs.store.Given as goal
 
 abbrev pub invariant-loop-f : goal.invariant-loop-f
-invariant-loop-f l = (l.f ≤ l.n) × (length l.buf ≡ length l.initial.buf) × (l.buf ≡ memory_bytes l.f l.g ++ drop (9 * l.f) l.initial.buf)
-
-abbrev pub decreases-loop-f : goal.decreases-loop-f
-decreases-loop-f l = l.n - l.f
+invariant-loop-f l = (length l.buf ≡ length l.initial.buf) × (l.buf ≡ memory_bytes l.f l.g ++ drop (9 * l.f) l.initial.buf)

@@ -1,20 +1,13 @@
 -- `gathering::gather` meets its contract: the equations' rows, and after them the constraints'. Assumes nothing.
-use mathlib.Core.Path.{◌∙◌}
 use native.Mathlib.Omega.{arith}
 use Rattle.model.specs.Sheet.{sheet_of}
 use Rattle.gathering.proofs.Steps.{all-gathered}
 use Rattle.gathering.proofs.gather.Goals as goal
 
-pub put_equations-count-requires : goal.put_equations-count-requires
-put_equations-count-requires c = c.requires
-
 pub put_constraints-requires : goal.put_constraints-requires
 put_constraints-requires c =
     let first = c.put_equations-count in
     (c.requires.0, omega (arith, first.ensures.1), omega (arith, c.requires.1, first.auto.rows))
-
-pub shape_of-rows : goal.shape_of-rows
-shape_of-rows c = c.put_constraints.auto.rows ∙ c.put_equations-count.auto.rows
 
 pub returns : goal.returns
 returns c =

@@ -1,8 +1,6 @@
 -- `gathering::put_constraint` meets its contract. Assumes nothing.
 use mathlib.Core.Path.{ap, ◌∙◌}
 use Prim.Native.Nat.{◌*◌}
-use native.Mathlib.Omega.{arith}
-use borrow.Author.Tests.{not-false}
 use Rattle.model.specs.Lists.{placed}
 use Rattle.model.specs.Sheet.{sheet_of, constraint}
 use Rattle.inequalities.proofs.Agreement.{constraint-row_size}
@@ -12,22 +10,7 @@ use Rattle.gathering.proofs.put_constraint.Goals as goal
 pub returns-then-not-mark : goal.returns-then-not-mark
 returns-then-not-mark c =
     let a = c.args in
-    no_rows a.i a.rows.now a.mark _ c.if-not-mark.true-raw
-
-pub constraint_row-requires : goal.constraint_row-requires
-constraint_row-requires c =
-    (c.requires.0, c.requires.1)
-
-pub put_row-requires : goal.put_row-requires
-put_row-requires c =
-    c.requires.2
-
-pub overflow_add-result : goal.overflow_add-result
-overflow_add-result c =
-    omega (arith, c.requires.2, c.well_formed.0)
-
-pub shape_of-rows : goal.shape_of-rows
-shape_of-rows c = c.put_row.auto.rows
+    no_rows a.i a.rows.now a.mark _ c.if-not-mark.true
 
 pub returns : goal.returns
 returns c =
@@ -35,5 +18,5 @@ returns c =
     let put = c.put_row in
     let made = c.constraint_row in
     let r = constraint (sheet_of a.sheet.now) a.r in
-    rw (not-false a.mark c.if-not-mark.false-raw)
+    rw c.if-not-mark.false
     (one_row a.i a.rows.now put.new.rows _ (constraint-row_size r) (put.ensures ∙ ap (placed a.rows.now (14 * a.i)) made.ensures))

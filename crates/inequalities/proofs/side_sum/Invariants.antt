@@ -1,10 +1,7 @@
 use mathlib.Core.Path.{◌≡◌}
-use Prim.Native.Nat.{◌+◌, ◌-◌, ◌*◌, ◌≤◌}
+use Prim.Native.Nat.{◌+◌, ◌*◌, ◌≤◌}
 use Rattle.inequalities.proofs.Steps.{side_to}
 use Rattle.inequalities.proofs.side_sum.Given as goal
 
 abbrev pub invariant-loop-f : goal.invariant-loop-f
-invariant-loop-f l = (l.f ≤ 6) × (l.sum ≡ side_to l.rows l.at l.n l.f) × (l.sum ≤ 16711425 * (l.f + 1))
-
-abbrev pub decreases-loop-f : goal.decreases-loop-f
-decreases-loop-f l = 6 - l.f
+invariant-loop-f l = (l.sum ≡ side_to l.rows l.at l.n l.f) × (l.sum ≤ 16711425 * (l.f + 1))

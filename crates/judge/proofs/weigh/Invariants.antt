@@ -1,12 +1,8 @@
 use mathlib.Core.Path.{◌≡◌}
-use Prim.Native.Nat.{◌-◌, ◌≤◌}
 use Rattle.model.specs.Sheet.{sheet_of, constraint}
 use Rattle.model.specs.Word.{weight}
 use Rattle.fields.specs.Memory.{meaning}
 use Rattle.judge.proofs.weigh.Given as goal
 
 abbrev pub invariant-loop-f : goal.invariant-loop-f
-invariant-loop-f l = (l.f ≤ l.fields) × (l.sum ≡ weight (constraint (sheet_of l.sheet) l.r) (meaning l.sheet l.g) l.f)
-
-abbrev pub decreases-loop-f : goal.decreases-loop-f
-decreases-loop-f l = l.fields - l.f
+invariant-loop-f l = l.sum ≡ weight (constraint (sheet_of l.sheet) l.r) (meaning l.sheet l.g) l.f

@@ -1,6 +1,5 @@
 use mathlib.Core.Path.{◌≡◌}
 use mathlib.Core.List.{◌++◌, map}
-use Prim.Native.Nat.{◌-◌, ◌≤◌}
 use lib.ListN.{replicate, drop}
 use Rattle.model.specs.Lists.{up_to}
 use Rattle.model.specs.Sheet.{sheet_of, template}
@@ -9,7 +8,4 @@ use Rattle.codes.specs.Cell.{cell_code}
 use Rattle.locations.proofs.cell_codes.Given as goal
 
 abbrev pub invariant-loop-i : goal.invariant-loop-i
-invariant-loop-i l = (l.i ≤ 25) × (l.codes ≡ map (λ i'. cell_code (sheet_of l.sheet) (cells (sheet_of l.sheet) (template (sheet_of l.sheet) l.p l.side)) i' 0 0) (up_to l.i) ++ drop l.i (replicate 25 0))
-
-abbrev pub decreases-loop-i : goal.decreases-loop-i
-decreases-loop-i l = 25 - l.i
+invariant-loop-i l = (l.codes ≡ map (λ i'. cell_code (sheet_of l.sheet) (cells (sheet_of l.sheet) (template (sheet_of l.sheet) l.p l.side)) i' 0 0) (up_to l.i) ++ drop l.i (replicate 25 0))

@@ -1,4 +1,4 @@
-use Prim.Native.Nat.{◌+◌, ◌-◌, ◌*◌, ◌≤◌}
+use Prim.Native.Nat.{◌+◌, ◌*◌}
 use lib.ListN.{get_or}
 use Rattle.model.specs.Lists.{each, up_to}
 use Rattle.model.proofs.Seams.{Written}
@@ -7,7 +7,4 @@ use Rattle.crossings.specs.Codes.{cross_lines}
 use Rattle.locations.proofs.put_row.Given as goal
 
 abbrev pub invariant-loop-j : goal.invariant-loop-j
-invariant-loop-j l = (l.j ≤ l.n) × Written l.initial.buf l.at (each (up_to l.j) (λ j'. cross_lines l.l (2 * l.n) (l.here + 2 * j') (side_of l.u) l.x (side_of (get_or l.right j' 0)) (get_or l.y j' 0))) l.buf l.past
-
-abbrev pub decreases-loop-j : goal.decreases-loop-j
-decreases-loop-j l = l.n - l.j
+invariant-loop-j l = Written l.initial.buf l.at (each (up_to l.j) (λ j'. cross_lines l.row.l (2 * l.row.n) (l.here + 2 * j') (side_of l.left.byte) l.left.code (side_of (get_or l.row.bytes j' 0)) (get_or l.row.codes j' 0))) l.buf l.past

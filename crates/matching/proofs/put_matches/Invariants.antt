@@ -1,11 +1,7 @@
-use Prim.Native.Nat.{◌-◌, ◌≤◌}
 use Rattle.model.specs.Lists.{each, up_to}
 use Rattle.model.proofs.Seams.{Written}
 use Rattle.matching.specs.Codes.{match_line}
 use Rattle.matching.proofs.put_matches.Given as goal
 
 abbrev pub invariant-loop-a : goal.invariant-loop-a
-invariant-loop-a l = (l.a ≤ l.l) × Written l.initial.buf l.at (each (up_to l.a) (match_line l.l l.here l.x l.y)) l.buf l.past
-
-abbrev pub decreases-loop-a : goal.decreases-loop-a
-decreases-loop-a l = l.l - l.a
+invariant-loop-a l = Written l.initial.buf l.at (each (up_to l.a) (match_line l.l l.here l.x l.y)) l.buf l.past

@@ -1,7 +1,7 @@
 -- `places::blanks_last` meets its contract. The loop's invariant: what is asked of the places from c on, before a blank or after one, decides.
-use mathlib.Core.Path.{◌≡◌, sym, ap, ap₂, ◌∙◌}
+use mathlib.Core.Path.{sym, ap, ap₂, ◌∙◌}
 use mathlib.Core.List.{map}
-use Prim.Native.Nat.{ℕ, ◌+◌, ◌-◌, ◌≤◌}
+use Prim.Native.Nat.{ℕ, ◌+◌}
 use native.Mathlib.Omega.{arith}
 use Rattle.model.specs.Lists.{up_to}
 use Rattle.model.specs.Sheet.{sheet_of}
@@ -21,7 +21,7 @@ limit-limit-requires c =
 pub loop-c-init : goal.loop-c-init
 loop-c-init c =
     let a = c.args in
-    (omega arith, sym (ahead_all c.letters-blank.result (held (sheet_of a.sheet.now) (truth a.marks.now) a.f) c.limit-limit.result))
+    sym (ahead_all c.letters-blank.result (held (sheet_of a.sheet.now) (truth a.marks.now) a.f) c.limit-limit.result)
 
 pub values-here-requires : goal.values-here-requires
 values-here-requires c =
@@ -36,7 +36,7 @@ returns-then-ended c =
     let asks = ap₂ (λ b n. blanks_last b (map h (up_to n))) (sym c.letters-blank.ensures) (sym c.limit-limit.ensures.0) in
     let b = c.letters-blank.result in
     let n = c.limit-limit.result in
-    sym (asks ∙ l.invariant.1 ∙ ap (λ e. ahead b h n e l.c) c.if-ended.true
+    sym (asks ∙ l.invariant ∙ ap (λ e. ahead b h n e l.c) c.if-ended.true
     ∙ ahead_fails b h n l.c c.loop-c-test.true (λ e. c.if-here-blank.false (here ∙ e)))
 
 pub loop-c-preserved : goal.loop-c-preserved
@@ -49,19 +49,15 @@ loop-c-preserved c =
     let b = c.letters-blank.result in
     let n = c.limit-limit.result in
     elim c.if-here-blank.branch [
-      | then-here-blank w ↦ (
-        omega arith,
-        l.invariant.1
-            ∙ ahead_blank b h n l.c inside l.ended (sym here ∙ w.if-here-blank.true)
-            ∙ ap (λ e. ahead b h n e (l.c + 1)) (sym w.ended-is),
-      )
-      | else-here-blank+else-ended w ↦ (
-        omega arith,
-        l.invariant.1
-            ∙ ap (λ e. ahead b h n e l.c) w.if-ended.false
-            ∙ ahead_letter b h n l.c inside (λ e. w.if-here-blank.false (here ∙ e))
-            ∙ ap (λ e. ahead b h n e (l.c + 1)) (sym (w.ended-is ∙ w.if-ended.false)),
-      )
+      | then-here-blank w ↦
+          l.invariant
+          ∙ ahead_blank b h n l.c inside l.ended (sym here ∙ w.if-here-blank.true)
+          ∙ ap (λ e. ahead b h n e (l.c + 1)) (sym w.ended-is)
+      | else-here-blank+else-ended w ↦
+          l.invariant
+          ∙ ap (λ e. ahead b h n e l.c) w.if-ended.false
+          ∙ ahead_letter b h n l.c inside (λ e. w.if-here-blank.false (here ∙ e))
+          ∙ ap (λ e. ahead b h n e (l.c + 1)) (sym (w.ended-is ∙ w.if-ended.false))
     ]
 
 pub returns : goal.returns
@@ -70,4 +66,4 @@ returns c =
     let a = c.args in
     let h : ℕ → ℕ = held (sheet_of a.sheet.now) (truth a.marks.now) a.f in
     let asks = ap₂ (λ b n. blanks_last b (map h (up_to n))) (sym c.letters-blank.ensures) (sym c.limit-limit.ensures.0) in
-    sym (asks ∙ l.invariant.1 ∙ ahead_over c.letters-blank.result h c.limit-limit.result l.ended l.c c.loop-c-test.false)
+    sym (asks ∙ l.invariant ∙ ahead_over c.letters-blank.result h c.limit-limit.result l.ended l.c c.loop-c-test.false)

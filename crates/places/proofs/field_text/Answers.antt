@@ -1,9 +1,8 @@
 -- `places::field_text` meets its contract. The loop's invariant: the places passed hold letters, and these have been stored. Assumes nothing.
 use mathlib.Core.Path.{◌≡◌, refl, sym, ap, ◌∙◌}
-use mathlib.Core.List.{◌++◌, map}
-use Prim.Native.Nat.{ℕ, ◌-◌, ◌<◌, ◌≤◌}
+use mathlib.Core.List.{map}
+use Prim.Native.Nat.{ℕ}
 use native.Mathlib.Omega.{arith}
-use lib.ListN.{drop}
 use borrow.Author.Count.{below_more}
 use Rattle.model.specs.Lists.{from, up_to}
 use Rattle.model.specs.Sheet.{sheet_of}
@@ -22,7 +21,7 @@ limit-limit-requires c =
 
 pub loop-c-init : goal.loop-c-init
 unfolding from
-loop-c-init c = (omega arith, refl, λ k h. absurd (omega arith))
+loop-c-init c = (refl, λ k h. absurd (omega arith))
 
 pub values-here-requires : goal.values-here-requires
 values-here-requires c =
@@ -37,8 +36,8 @@ returns-then-here-blank c =
     let a = c.args in
     let h : ℕ → ℕ = held (sheet_of a.sheet.now) (truth a.marks.now) a.f in
     let letters = c.letters-blank.ensures in
-    field-holds (map h (up_to l.c)) _ l.c l.letters l.invariant.1 (length-map-from h 0 l.c) (omega (arith, c.limit-limit.ensures.1))
-    (text_stop _ h _ l.c (omega (arith, c.limit-limit.ensures.0)) (λ k i e. l.invariant.2 k i (e ∙ sym letters))
+    field-holds (map h (up_to l.c)) _ l.c l.letters l.invariant.0 (length-map-from h 0 l.c) (omega (arith, c.limit-limit.ensures.1))
+    (text_stop _ h _ l.c (omega (arith, c.limit-limit.ensures.0)) (λ k i e. l.invariant.1 k i (e ∙ sym letters))
     (sym c.values-here.ensures.1 ∙ c.if-here-blank.true ∙ letters))
 
 pub overflow_cast-letters : goal.overflow_cast-letters
@@ -54,9 +53,8 @@ loop-c-preserved c =
     let a = c.args in
     let h : ℕ → ℕ = held (sheet_of a.sheet.now) (truth a.marks.now) a.f in
     let here = c.values-here.ensures.1 in (
-      omega arith,
-      store_more h l.c c.values-here.result.least l.letters l.invariant.1 (omega (arith, c.limit-limit.ensures.1)) here,
-      below_more _ l.c l.invariant.2 (λ e. c.if-here-blank.false (here ∙ e)),
+      store_more h l.c c.values-here.result.least l.letters l.invariant.0 (omega (arith, c.limit-limit.ensures.1)) here,
+      below_more _ l.c l.invariant.1 (λ e. c.if-here-blank.false (here ∙ e)),
     )
 
 pub overflow_cast-result-2 : goal.overflow_cast-result-2
@@ -69,6 +67,6 @@ returns c =
     let h : ℕ → ℕ = held (sheet_of a.sheet.now) (truth a.marks.now) a.f in
     let letters = c.letters-blank.ensures in
     let n : l.c ≡ c.limit-limit.result = omega arith in
-    field-holds (map h (up_to l.c)) _ l.c l.letters l.invariant.1 (length-map-from h 0 l.c) (omega (arith, c.limit-limit.ensures.1))
-    (text-whole _ h _ (λ k i e. l.invariant.2 k (omega (arith, c.limit-limit.ensures.0)) (e ∙ sym letters))
-    ∙ ap (λ m. map h (up_to m)) (sym c.limit-limit.ensures.0 ∙ sym n))
+    rw n at (field-holds (map h (up_to l.c)) _ l.c l.letters l.invariant.0 (length-map-from h 0 l.c) (omega (arith, c.limit-limit.ensures.1))
+    (text-whole _ h _ (λ k i e. l.invariant.1 k (omega (arith, c.limit-limit.ensures.0)) (e ∙ sym letters))
+    ∙ ap (λ m. map h (up_to m)) (sym c.limit-limit.ensures.0 ∙ sym n)))

@@ -1,10 +1,10 @@
 -- `places::spelled` meets its contract. The loop's invariant: the fields passed hold what the marks spell, and all are whole. Assumes nothing.
-use Prim.Native.Nat.{◌-◌, ◌<◌, ◌≤◌}
+use Prim.Native.Nat.{◌<◌}
 use native.Mathlib.Omega.{arith}
 use Rattle.model.specs.Sheet.{sheet_of}
 use Rattle.formula.specs.Assignment.{truth}
 use Rattle.formula.proofs.Small.{fields-few}
-use Rattle.places.proofs.Laws.{Filled, filled_start, filled_more, text_at, filled_held}
+use Rattle.places.proofs.Laws.{filled_start, filled_more, text_at, filled_held}
 use Rattle.places.proofs.spelled.Goals as goal
 use Rattle.places.proofs.spelled.Lts as lts
 use Rattle.places.proofs.spelled.Reads as reads
@@ -16,10 +16,10 @@ fields-fields-requires c = c.requires.0
 pub loop-f-init : goal.loop-f-init
 loop-f-init c =
     let a = c.args in
-    (omega arith, filled_start (text_at (sheet_of a.sheet.now) (truth a.marks.now)))
+    filled_start (text_at (sheet_of a.sheet.now) (truth a.marks.now))
 
-pub field_text-field-requires : goal.field_text-field-requires
-field_text-field-requires c =
+pub field_text-requires : goal.field_text-requires
+field_text-requires c =
     (c.requires, omega (arith, c.fields-fields.ensures))
 
 -- there is room for the field
@@ -37,11 +37,11 @@ pub loop-f-preserved : goal.loop-f-preserved
 loop-f-preserved c =
     let a = c.args in
     let l = c.loop-f in
-    let this = c.field_text-field.ensures in
-    (omega arith, filled_more (text_at (sheet_of a.sheet.now) (truth a.marks.now)) l.f l.g c.field_text-field.result l.invariant.1 (few c.before) this.0 this.1)
+    let this = c.field_text.ensures in
+    filled_more (text_at (sheet_of a.sheet.now) (truth a.marks.now)) l.f l.g c.field_text.result l.invariant (few c.before) this.0 this.1
 
 pub returns : goal.returns
 returns c =
     let a = c.args in
     let l = c.loop-f in
-    filled_held a.sheet.now (truth a.marks.now) l.f l.g c.requires.0 (omega (arith, c.fields-fields.ensures)) l.invariant.1
+    filled_held a.sheet.now (truth a.marks.now) l.f l.g c.requires.0 (omega (arith, c.fields-fields.ensures)) l.invariant

@@ -3,7 +3,7 @@ use Prim.Native.Nat.{◌-◌}
 use native.Mathlib.Omega.{arith}
 use Rattle.model.specs.Sheet.{sheet_of}
 use Rattle.formula.proofs.Small.{letters-few}
-use Rattle.places.proofs.Laws.{is_true, in_marks, is_true_lem, is_false, Counted, counted_start, counted-yes, counted-no, counted-all}
+use Rattle.places.proofs.Laws.{is_true, in_marks, is_true_lem, is_false, counted_start, counted-yes, counted-no, counted-all}
 use Rattle.places.proofs.values.Goals as goal
 
 pub letters-blank-requires : goal.letters-blank-requires
@@ -14,8 +14,8 @@ pub place_number-first-requires : goal.place_number-first-requires
 place_number-first-requires c =
     (c.requires.0.0, ((c.requires.1, c.requires.2), omega arith))
 
-pub overflow_add-a : goal.overflow_add-a
-overflow_add-a c =
+pub overflow_step-a : goal.overflow_step-a
+overflow_step-a c =
     omega (arith, c.letters-blank.ensures, letters-few (sheet_of c.args.sheet.now) c.requires.0.0.1)
 
 pub loop-a-init : goal.loop-a-init

@@ -4,7 +4,6 @@ use mathlib.Core.List.{List, [], ◌∷◌, ◌++◌}
 use Prim.Native.Nat.{ℕ}
 use native.Mathlib.Omega.{arith}
 use Rattle.model.specs.Sheet.{Sheet, sheet_of}
-use Rattle.formula.specs.Clause.{Start}
 use Rattle.formula.specs.Count.{Section, of_fields, of_equations, of_constraints}
 use Rattle.formula.specs.Dimacs.{problem_line, file}
 use Rattle.formula.proofs.Lines.{first-line}

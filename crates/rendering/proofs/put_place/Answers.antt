@@ -7,7 +7,7 @@ use lib.Dec.{ltb}
 use borrow.Author.Tests.{lt-ltb, le-ltb}
 use Rattle.model.specs.Lists.{each, up_to, when}
 use Rattle.model.specs.Sheet.{Sheet, sheet_of, limit}
-use Rattle.formula.specs.Clause.{SomeValue, BlankTail, Start}
+use Rattle.formula.specs.Clause.{SomeValue, BlankTail}
 use Rattle.model.proofs.Seams.{nothing}
 use Rattle.formula.proofs.Small.{letters-few, limit-small}
 use Rattle.model.proofs.Writing.{Writing, joined, begin, fits, next, ends}

@@ -7,7 +7,4 @@ use Rattle.fields.specs.Memory.{meaning}
 use Rattle.report.proofs.field_lines.Given as goal
 
 abbrev pub invariant-loop-f : goal.invariant-loop-f
-invariant-loop-f l = (l.f ≤ l.fields) × Written l.initial.buf l.at (each (up_to l.f) (field_line (sheet_of l.sheet) (meaning l.sheet l.g))) l.buf l.past
-
-abbrev pub decreases-loop-f : goal.decreases-loop-f
-decreases-loop-f l = l.fields - l.f
+invariant-loop-f l = Written l.initial.buf l.at (each (up_to l.f) (field_line (sheet_of l.sheet) (meaning l.sheet l.g))) l.buf l.past

@@ -7,7 +7,4 @@ use Rattle.fields.specs.Memory.{meaning}
 use Rattle.report.proofs.pair_lines.Given as goal
 
 abbrev pub invariant-loop-p : goal.invariant-loop-p
-invariant-loop-p l = (l.p ≤ l.equations) × Written l.initial.buf l.at (each (up_to l.p) (pair_line (sheet_of l.sheet) (meaning l.sheet l.g))) l.buf l.past
-
-abbrev pub decreases-loop-p : goal.decreases-loop-p
-decreases-loop-p l = l.equations - l.p
+invariant-loop-p l = Written l.initial.buf l.at (each (up_to l.p) (pair_line (sheet_of l.sheet) (meaning l.sheet l.g))) l.buf l.past

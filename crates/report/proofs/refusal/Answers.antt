@@ -9,43 +9,29 @@ use Rattle.calls.specs.Report.{refused_line}
 use Rattle.model.proofs.Writing.{Writing, joined, begin, fits, next, ends}
 use Rattle.report.proofs.Sizes.{refused-short}
 use Rattle.report.proofs.refusal.Goals as goal
-use Rattle.report.proofs.refusal.Lts as lts
-use Rattle.report.proofs.refusal.Reads as reads
-use Rattle.report.proofs.refusal.Tie as tie
 
--- what is still to be written once the word is there: the number and the line end
-abbrev start : lts.After-wide tie.the-claims reads.Pre reads.Post → lts.Start tie.the-claims reads.Pre reads.Post
-start c = c.before.before.before.before.before.before.before.before.before
-
-abbrev Still : lts.After-wide tie.the-claims reads.Pre reads.Post → List ℕ → List (List ℕ) → List ℕ → ℕ → Type 0
-Still c = Writing (start c).args.buf.now 0 (refused_line c.wide.result)
-
-short : (c : lts.After-wide tie.the-claims reads.Pre reads.Post) → length (refused_line c.wide.result) ≤ 12
-short c = refused-short c.wide.result (omega (arith, c.wide.ensures.1))
-
-abbrev after-put : lts.After-wide tie.the-claims reads.Pre reads.Post → lts.After-put tie.the-claims reads.Pre reads.Post
-after-put c = c.before.before.before.before
-
-worded : (c : lts.After-wide tie.the-claims reads.Pre reads.Post) → Still c (decimal c.wide.result) ((10 ∷ []) ∷ []) (after-put c).put-a.new.buf (after-put c).put-a.result
+-- what is still to be written: the word, the number, the line end
+begun : (buf : List ℕ) (n : ℕ) → n ≤ 999 → 12 ≤ length buf
+    → Writing buf 0 (refused_line n) (114 ∷ 101 ∷ 102 ∷ 117 ∷ 115 ∷ 101 ∷ 100 ∷ 32 ∷ []) (decimal n ∷ (10 ∷ []) ∷ []) buf 0
 unfolding refused_line joined
-worded c =
-    let at-put = (after-put c).put-a in
-    next (begin (start c).args.buf.now 0 _ (114 ∷ 101 ∷ 102 ∷ 117 ∷ 115 ∷ 101 ∷ 100 ∷ 32 ∷ []) (decimal c.wide.result ∷ (10 ∷ []) ∷ []) refl (omega (arith, short c, (start c).requires)))
-    at-put.ensures at-put.auto.buf
-
-numbered : (c : lts.After-print tie.the-claims reads.Pre reads.Post) → Still c.before (10 ∷ []) [] c.print-b.new.buf c.print-b.result
-numbered c = next (worded c.before) c.print-b.ensures c.print-b.auto.buf
+begun buf n small room =
+    begin buf 0 _ (114 ∷ 101 ∷ 102 ∷ 117 ∷ 115 ∷ 101 ∷ 100 ∷ 32 ∷ []) (decimal n ∷ (10 ∷ []) ∷ []) refl (omega (arith, refused-short n small, room))
 
 pub print-b-requires : goal.print-b-requires
-print-b-requires c = fits (worded c)
+print-b-requires c =
+    fits (next (begun c.args.buf.now c.from.result (omega (arith, c.ranges.number)) c.requires) c.put-a.ensures c.put-a.auto.buf)
 
 pub put-requires : goal.put-requires
-put-requires c = fits (numbered c.before.before.before.before.before)
+put-requires c =
+    let worded = next (begun c.args.buf.now c.from.result (omega (arith, c.ranges.number)) c.requires) c.put-a.ensures c.put-a.auto.buf in
+    fits (next worded c.print-b.ensures c.print-b.auto.buf)
 
 pub returns : goal.returns
 returns c =
-    let after = c.before.before.before in
-    let all = ends _ _ (numbered after.before.before.before.before.before.before) after.put.ensures after.put.auto.buf in
-    let n = short after.before.before.before.before.before.before.before in
-    let e = after.wide.ensures.0 in
+    let small : c.from.result ≤ 999 = omega (arith, c.ranges.number) in
+    let worded = next (begun c.args.buf.now c.from.result small c.requires) c.put-a.ensures c.put-a.auto.buf in
+    let numbered = next worded c.print-b.ensures c.print-b.auto.buf in
+    let all = ends _ _ numbered c.put.ensures c.put.auto.buf in
+    let n = refused-short c.from.result small in
+    let e = c.from.ensures in
     (rw e at all, omega (arith, all.0))

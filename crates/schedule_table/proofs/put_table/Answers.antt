@@ -1,11 +1,12 @@
 -- `schedule_table::put_table` meets its contract. The loop's invariant: the table is right up to here. Assumes nothing.
-use mathlib.Core.Path.{◌≡◌, sym, subst, ◌∙◌}
+use mathlib.Core.Path.{◌≡◌, sym, subst}
+use mathlib.Core.Bool.{Bool, false}
 use mathlib.Core.List.{List}
 use Prim.Native.Nat.{ℕ, ◌+◌, ◌*◌, ◌/◌, ◌%◌, ◌<◌, ◌≤◌}
 use native.Mathlib.Omega.{arith}
 use lib.Arith.{lt_of_le-ne}
 use lib.Dec.{eqb}
-use lib.ListN.{length, get_or, set, length-set}
+use lib.ListN.{length, get_or, set}
 use lib.Seq.{get_or-set_same, get_or-set_other}
 use borrow.Author.Tests.{eqb-true, eqb-false}
 use Rattle.model.proofs.Lists.{by_test}
@@ -14,47 +15,27 @@ use Rattle.schedule_table.specs.Table.{Marks}
 use Rattle.schedule_table.proofs.put_table.Goals as goal
 use Rattle.schedule_table.proofs.put_table.Invariants.{ShowsTo}
 
--- one byte more: it is that of one pair alone, since no row has more than 16
-one_more : (k n : ℕ) (s : Schedule) (table : List ℕ) (v : ℕ) → n ≤ 16 → k < length table → ShowsTo k n s table → Marks n s (k / 16) (k % 16) v → ShowsTo (k + 1) n s (set table k v)
+-- one cell more: it is that of one pair alone, since no row has more than 16
+one_more : (k n : ℕ) (s : Schedule) (table : List Bool) (v : Bool) → n ≤ 16 → k < length table → ShowsTo k n s table → Marks n s (k / 16) (k % 16) v → ShowsTo (k + 1) n s (set table k v)
 one_more k n s table v few inside h m i j l a b = by_test (eqb (i * 16 + j) k)
     (λ t.
     let e = eqb-true (i * 16 + j) k t in
     let p : k / 16 ≡ i = omega arith in
     let q : k % 16 ≡ j = omega arith in
-    subst (λ x. Marks n s i j (get_or (set table k v) x 0)) (sym e)
-    (subst (Marks n s i j) (sym (get_or-set_same table k v 0 inside)) (subst (λ x. Marks n s i x v) q (subst (λ x. Marks n s x (k % 16) v) p m))) a b)
+    subst (λ x. Marks n s i j (get_or (set table k v) x false)) (sym e)
+    (subst (Marks n s i j) (sym (get_or-set_same table k v false inside)) (subst (λ x. Marks n s i x v) q (subst (λ x. Marks n s x (k % 16) v) p m))) a b)
     (λ t.
     let d = eqb-false (i * 16 + j) k t in
     let z : i * 16 + j ≤ k = omega arith in
-    subst (Marks n s i j) (sym (get_or-set_other table k (i * 16 + j) v 0 d)) (h i j (lt_of_le-ne z d)) a b)
+    subst (Marks n s i j) (sym (get_or-set_other table k (i * 16 + j) v false d)) (h i j (lt_of_le-ne z d)) a b)
 
 pub loop-k-init : goal.loop-k-init
-loop-k-init c = (omega arith, c.requires.2, λ i j l a b. absurd (omega arith))
-
-pub mark-requires : goal.mark-requires
-mark-requires c = c.requires.0
-
-pub bounds-table-k : goal.bounds-table-k
-bounds-table-k c = omega (arith, c.loop-k.invariant.1, c.loop-k-test.true)
-
-pub overflow_add-k : goal.overflow_add-k
-overflow_add-k c = omega (arith, c.loop-k-test.true)
-
-pub loop-k-smaller : goal.loop-k-smaller
-loop-k-smaller c = omega (arith, c.loop-k-test.true)
+loop-k-init c i j l a b = absurd (omega arith)
 
 pub loop-k-preserved : goal.loop-k-preserved
 loop-k-preserved c =
-    let l = c.loop-k in (
-      omega (arith, c.loop-k-test.true),
-      length-set l.table l.k c.mark.result ∙ l.invariant.1,
-      one_more l.k c.args.n (schedule_of c.args.n c.args.hours.now) l.table c.mark.result c.requires.1 (omega (arith, l.invariant.1, c.loop-k-test.true)) l.invariant.2 c.mark.ensures,
-    )
-
-pub shape_of-table : goal.shape_of-table
-shape_of-table c = c.loop-k.invariant.1 ∙ sym c.requires.2
+    let l = c.loop-k in
+    one_more l.k c.args.n (schedule_of c.args.n c.args.hours.now) l.table c.mark.result c.requires.1 (omega arith) l.invariant c.mark.ensures
 
 pub returns : goal.returns
-returns c i j a b =
-    let l = c.loop-k in
-    l.invariant.2 i j (omega (arith, c.requires.1, c.loop-k-test.false)) a b
+returns c i j a b = c.loop-k.invariant i j (omega (arith, c.requires, c.loop-k-test.false)) a b

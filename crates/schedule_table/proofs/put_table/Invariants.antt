@@ -1,17 +1,14 @@
-use mathlib.Core.Path.{◌≡◌}
+use mathlib.Core.Bool.{Bool, false}
 use mathlib.Core.List.{List}
-use Prim.Native.Nat.{ℕ, ◌+◌, ◌-◌, ◌*◌, ◌<◌, ◌≤◌}
-use lib.ListN.{length, get_or}
+use Prim.Native.Nat.{ℕ, ◌+◌, ◌*◌, ◌<◌}
+use lib.ListN.{get_or}
 use Rattle.schedule.specs.Schedule.{Schedule, schedule_of}
 use Rattle.schedule_table.specs.Table.{Marks}
 use Rattle.schedule_table.proofs.put_table.Given as goal
 
 -- the table is right up to an offset
-abbrev pub ShowsTo : ℕ → ℕ → Schedule → List ℕ → Type 0
-ShowsTo k n s table = (i j : ℕ) → i * 16 + j < k → Marks n s i j (get_or table (i * 16 + j) 0)
+abbrev pub ShowsTo : ℕ → ℕ → Schedule → List Bool → Type 0
+ShowsTo k n s table = (i j : ℕ) → i * 16 + j < k → Marks n s i j (get_or table (i * 16 + j) false)
 
 abbrev pub invariant-loop-k : goal.invariant-loop-k
-invariant-loop-k l = (l.k ≤ 256) × (length l.table ≡ 256) × ShowsTo l.k l.n (schedule_of l.n l.hours) l.table
-
-abbrev pub decreases-loop-k : goal.decreases-loop-k
-decreases-loop-k l = 256 - l.k
+invariant-loop-k l = ShowsTo l.k l.n (schedule_of l.n l.hours) l.table

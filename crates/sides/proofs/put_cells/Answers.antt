@@ -4,5 +4,5 @@ use Rattle.sides.proofs.put_cells.Goals as goal
 pub returns-then-back : goal.returns-then-back
 returns-then-back c = rw c.if-back.true c.put_turned.ensures
 
-pub returns : goal.returns
-returns c = rw c.if-back.false c.put.ensures
+pub returns-else-back : goal.returns-else-back
+returns-else-back c = rw c.if-back.false c.put.ensures

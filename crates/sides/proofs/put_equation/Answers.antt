@@ -24,11 +24,6 @@ two-widths w k m n room =
     let e : k + 2 ≡ k + 1 + 1 = omega arith in
     (e ∙ two.0, two.1)
 
-pub bounds-w-k-2 : goal.bounds-w-k-2
-bounds-w-k-2 c =
-    let a = c.args in
-    omega (arith, c.requires.3, length-set a.w.now a.there.widths (c.put_side-middle.result - a.there.cells))
-
 pub returns : goal.returns
 returns c =
     let second = c.before.before.before in

@@ -12,45 +12,37 @@ use Rattle.sides.proofs.put_equations.Goals.{then-marks-p, else-marks-p}
 pub loop-p-init : goal.loop-p-init
 loop-p-init c =
     let a = c.args in
-    (omega arith, front_none (sheet_of a.sheet.now) a.back a.marks a.x.now a.w.now)
+    front_none (sheet_of a.sheet.now) a.back a.marks a.x.now a.w.now
 
 pub bounds-marks-p : goal.bounds-marks-p
 bounds-marks-p c =
     let few = equations-few (sheet_of c.args.sheet.now) c.requires.0.1 in
-    omega (arith, c.equations-equations.ensures)
+    omega (arith, c.equations-p-end.ensures)
 
 pub put_equation-sizes-requires : goal.put_equation-sizes-requires
 put_equation-sizes-requires c =
     let few = equations-few (sheet_of c.args.sheet.now) c.requires.0.1 in
-    let there = c.loop-p.invariant.1 in
-    (c.requires.0, omega (arith, c.equations-equations.ensures), omega (arith, c.requires.1, there.few_cells, there.cells_in.long, c.equations-equations.ensures), omega (arith, c.requires.2, there.few_widths, there.widths_in.long, c.equations-equations.ensures))
+    let there = c.loop-p.invariant in
+    (c.requires.0, omega (arith, c.equations-p-end.ensures), omega (arith, c.requires.1, there.few_cells, there.cells_in.long, c.equations-p-end.ensures), omega (arith, c.requires.2, there.few_widths, there.widths_in.long, c.equations-p-end.ensures))
 
 pub loop-p-preserved : goal.loop-p-preserved
 loop-p-preserved c =
     let m = sheet_of c.args.sheet.now in
     let few = equations-few m c.requires.0.1 in
     let p = c.loop-p.p in
-    let inside : p < length m.equations = omega (arith, c.equations-equations.ensures) in
-    let there = c.loop-p.invariant.1 in (
-      omega arith,
-      (elim c.if-marks-p.branch [
-        | then-marks-p w ↦
-            let put = w.put_equation-sizes in
-            rw (w.x-is, w.w-is, w.sizes-is)
-            (front_takes m c.args.back c.args.marks c.args.x.now c.args.w.now p c.loop-p.x c.loop-p.w c.loop-p.sizes inside there w.if-marks-p.true c.requires.1 c.requires.2 (omega arith)
-            put.new.x put.new.w put.result put.ensures put.auto.x put.auto.w)
-        | else-marks-p w ↦ rw (w.x-is, w.w-is, w.sizes-is) (front_skips m c.args.back c.args.marks c.args.x.now c.args.w.now p c.loop-p.x c.loop-p.w c.loop-p.sizes inside there w.if-marks-p.false)
-      ]),
-    )
-
-pub shape_of-x : goal.shape_of-x
-shape_of-x c = c.loop-p.invariant.1.cells_in.long
-
-pub shape_of-w : goal.shape_of-w
-shape_of-w c = c.loop-p.invariant.1.widths_in.long
+    let inside : p < length m.equations = omega (arith, c.equations-p-end.ensures) in
+    let there = c.loop-p.invariant in
+    elim c.if-marks-p.branch [
+      | then-marks-p w ↦
+          let put = w.put_equation-sizes in
+          rw (w.x-is, w.w-is, w.sizes-is)
+          (front_takes m c.args.back c.args.marks c.args.x.now c.args.w.now p c.loop-p.x c.loop-p.w c.loop-p.sizes inside there w.if-marks-p.true c.requires.1 c.requires.2 (omega arith)
+          put.new.x put.new.w put.result put.ensures put.auto.x put.auto.w)
+      | else-marks-p w ↦ rw (w.x-is, w.w-is, w.sizes-is) (front_skips m c.args.back c.args.marks c.args.x.now c.args.w.now p c.loop-p.x c.loop-p.w c.loop-p.sizes inside there w.if-marks-p.false)
+    ]
 
 pub returns : goal.returns
 returns c =
     let m = sheet_of c.args.sheet.now in
     let few = equations-few m c.requires.0.1 in
-    front_whole m c.args.back c.args.marks c.args.x.now c.args.w.now c.loop-p.p c.loop-p.x c.loop-p.w c.loop-p.sizes (omega arith) (omega arith) c.loop-p.invariant.1
+    front_whole m c.args.back c.args.marks c.args.x.now c.args.w.now c.loop-p.p c.loop-p.x c.loop-p.w c.loop-p.sizes (omega arith) (omega arith) c.loop-p.invariant

@@ -32,39 +32,25 @@ module _ (T : ℕ → ℕ) (piece : List ℕ) (i : ℕ) (some : 0 < i) (inside :
 pub loop-i-init : goal.loop-i-init
 loop-i-init c =
     let a = c.args in
-    (omega arith, omega arith, rw (drop-length a.piece.now) (nothing a.x.now a.at))
-
-pub bounds-piece-i : goal.bounds-piece-i
-bounds-piece-i c = omega (arith, c.loop-i.invariant.0)
+    (omega arith, rw (drop-length a.piece.now) (nothing a.x.now a.at))
 
 pub turned-requires : goal.turned-requires
 turned-requires c =
-    let at-loop = c.before.before.before in
-    (at-loop.requires.0, at (ByteIn (sheet_of at-loop.args.sheet.now)) at-loop.args.piece.now (at-loop.loop-i.i - 1) 0 at-loop.requires.1 (omega (arith, at-loop.loop-i.invariant.0)))
+    let s = sheet_of c.args.sheet.now in
+    (c.requires.0, at (ByteIn s) c.args.piece.now (c.loop-i.i - 1) 0 c.requires.1 (omega arith))
 
 pub bounds-x-end : goal.bounds-x-end
-bounds-x-end c =
-    let at-loop = c.before.before.before.before in
-    omega (arith, at-loop.requires.2, at-loop.loop-i.invariant.1, at-loop.loop-i.invariant.2.long)
-
-pub overflow_add-end : goal.overflow_add-end
-overflow_add-end c =
-    let at-loop = c.before.before.before.before in
-    omega (arith, at-loop.requires.2, at-loop.loop-i.invariant.1)
+bounds-x-end c = omega (arith, c.requires.2, c.loop-i.invariant.1.long)
 
 pub loop-i-preserved : goal.loop-i-preserved
 loop-i-preserved c =
-    let at-loop = c.before.before.before.before in
-    let a = at-loop.args in
-    let l = at-loop.loop-i in
-    (omega (arith, l.invariant.0), omega (arith, l.invariant.1), rw c.turned.ensures (turn (turned_byte (sheet_of a.sheet.now)) a.piece.now l.i c.loop-i-test.true l.invariant.0 a.x.now l.x a.at l.end l.invariant.2 (omega (arith, at-loop.requires.2, l.invariant.1))))
-
-pub shape_of-x : goal.shape_of-x
-shape_of-x c = c.loop-i.invariant.2.long
+    let a = c.args in
+    let l = c.loop-i in
+    (omega arith, rw c.turned.ensures (turn (turned_byte (sheet_of a.sheet.now)) a.piece.now l.i c.loop-i-test.true (omega arith) a.x.now l.x a.at l.end l.invariant.1 (omega (arith, c.requires.2))))
 
 pub returns : goal.returns
 returns c =
     let l = c.loop-i in
     let e : l.i ≡ 0 = omega arith in
-    let w = rw e at l.invariant.2 in
+    let w = rw e at l.invariant.1 in
     (w.past, w.holds)

@@ -18,7 +18,7 @@ returns-then-b-lt-FIRST_PLACE c = rw (lt-ltb c.args.b 8 (omega (arith, c.if-b-lt
 pub limit-limit-requires : goal.limit-limit-requires
 limit-limit-requires c =
     let place = c.requires.1 c.if-b-lt-FIRST_PLACE.false in
-    (c.requires.0.0, omega (arith, place.0, c.wide.ensures))
+    (c.requires.0.0, omega (arith, place.0, c.from.ensures))
 
 -- the sheet, the byte, and what is known of the field and of the place in it
 abbrev s : lts.After-limit tie.the-claims reads.Pre reads.Post → Sheet
@@ -28,7 +28,7 @@ abbrev b : lts.After-limit tie.the-claims reads.Pre reads.Post → ℕ
 b c = c.args.b
 
 limit_is : (c : lts.After-limit tie.the-claims reads.Pre reads.Post) → c.limit-limit.result ≡ limit (s c) ((b c - 8) / 8)
-limit_is c = c.limit-limit.ensures ∙ ap (limit (s c)) c.wide.ensures.0
+limit_is c = c.limit-limit.ensures ∙ ap (limit (s c)) c.from.ensures
 
 place-small : (c : lts.After-limit tie.the-claims reads.Pre reads.Post) → ((b c - 8) / 8 < 6) × ((b c - 8) % 8 < c.limit-limit.result) × (c.limit-limit.result ≤ 8)
 place-small c =

@@ -1,6 +1,5 @@
 -- `size_file::field_size` meets its contract. The loop's invariant: the sum is that of the first c places. Assumes nothing.
 use mathlib.Core.Path.{◌≡◌, sym, ap, ◌∙◌}
-use Prim.Native.Nat.{◌-◌}
 use native.Mathlib.Omega.{arith}
 use lib.ListN.{length}
 use Rattle.model.specs.Lists.{each, up_to}
@@ -14,7 +13,7 @@ limit-limit-requires c = c.requires
 
 pub loop-c-init : goal.loop-c-init
 loop-c-init c =
-    (omega arith, sym (length_none (place_lines (sheet_of c.args.sheet.now) c.args.f)), omega arith)
+    (sym (length_none (place_lines (sheet_of c.args.sheet.now) c.args.f)), omega arith)
 
 pub place_size-sum-requires : goal.place_size-sum-requires
 place_size-sum-requires c =
@@ -23,19 +22,16 @@ place_size-sum-requires c =
 pub overflow_add-sum : goal.overflow_add-sum
 overflow_add-sum c = omega (arith, c.loop-c.invariant, c.place_size-sum.ensures.1, c.limit-limit.ensures.1)
 
-pub overflow_add-c : goal.overflow_add-c
-overflow_add-c c = omega (arith, c.loop-c-test.true, c.limit-limit.ensures.1)
-
 pub loop-c-preserved : goal.loop-c-preserved
 loop-c-preserved c =
     let l = c.loop-c in
     let more = length_more (place_lines (sheet_of c.args.sheet.now) c.args.f) l.c in
-    (omega (arith, c.loop-c-test.true), omega (arith, l.invariant.1, c.place_size-sum.ensures.0), omega (arith, l.invariant.2, c.place_size-sum.ensures.1))
+    (omega (arith, l.invariant.0, c.place_size-sum.ensures.0), omega (arith, l.invariant.1, c.place_size-sum.ensures.1))
 
 pub returns : goal.returns
 unfolding field_lines
 returns c =
     let l = c.loop-c in
     let s = sheet_of c.args.sheet.now in
-    let e : l.c ≡ limit s c.args.f = omega (arith, l.invariant.0, c.limit-limit.ensures.0) in
-    (l.invariant.1 ∙ ap (λ k. length (each (up_to k) (place_lines s c.args.f))) e, omega (arith, l.invariant, c.limit-limit.ensures.1))
+    let e : l.c ≡ limit s c.args.f = omega (arith, l.auto.c-end, c.limit-limit.ensures.0) in
+    (l.invariant.0 ∙ ap (λ k. length (each (up_to k) (place_lines s c.args.f))) e, omega (arith, l.invariant, c.limit-limit.ensures.1))

@@ -80,7 +80,7 @@ pub place_code-requires : goal.place_code-requires
 place_code-requires c =
     let facts = facts-of c.before.before in
     let start = start_of facts in
-    (start.requires.0, (start.requires.1, omega (arith, facts.before.letters-letters.ensures)), omega arith)
+    (start.requires.0, (start.requires.1, omega (arith, facts.before.letters-letters.ensures)))
 
 pub literal_size-here-requires : goal.literal_size-here-requires
 literal_size-here-requires c =
@@ -97,7 +97,7 @@ pub place_code-requires-then-c-limit : goal.place_code-requires-then-c-limit
 place_code-requires-then-c-limit c =
     let facts = facts-of c.before.before.before.before in
     let start = start_of facts in
-    (start.requires.0, ((start.requires.1.0, omega (arith, inside c.before.before.before)), omega (arith, facts.before.letters-letters.ensures)), omega arith)
+    (start.requires.0, ((start.requires.1.0, omega (arith, inside c.before.before.before)), omega (arith, facts.before.letters-letters.ensures)))
 
 pub literal_size-next-requires : goal.literal_size-next-requires
 literal_size-next-requires c =

@@ -1,6 +1,5 @@
 -- `size_file::section_size` meets its contract. The loop's invariant: the sum is that of the first i parts. Assumes nothing.
 use mathlib.Core.Path.{◌≡◌, sym, ap, ◌∙◌}
-use Prim.Native.Nat.{◌-◌}
 use native.Mathlib.Omega.{arith}
 use lib.ListN.{length}
 use Rattle.model.specs.Lists.{each, up_to}
@@ -16,7 +15,7 @@ parts-parts-requires c = c.requires
 
 pub loop-i-init : goal.loop-i-init
 loop-i-init c =
-    (omega arith, sym (length_none (part_lines (sheet_of c.args.sheet.now) (section_of c.args.section))), omega arith)
+    (sym (length_none (part_lines (sheet_of c.args.sheet.now) (section_of c.args.section))), omega arith)
 
 pub part_size-sum-requires : goal.part_size-sum-requires
 part_size-sum-requires c =
@@ -25,19 +24,16 @@ part_size-sum-requires c =
 pub overflow_add-sum : goal.overflow_add-sum
 overflow_add-sum c = omega (arith, c.loop-i.invariant, c.part_size-sum.ensures.1, c.parts-parts.ensures.1)
 
-pub overflow_add-i : goal.overflow_add-i
-overflow_add-i c = omega (arith, c.loop-i-test.true, c.parts-parts.ensures.1)
-
 pub loop-i-preserved : goal.loop-i-preserved
 loop-i-preserved c =
     let l = c.loop-i in
     let more = length_more (part_lines (sheet_of c.args.sheet.now) (section_of c.args.section)) l.i in
-    (omega (arith, c.loop-i-test.true), omega (arith, l.invariant.1, c.part_size-sum.ensures.0), omega (arith, l.invariant.2, c.part_size-sum.ensures.1))
+    (omega (arith, l.invariant.0, c.part_size-sum.ensures.0), omega (arith, l.invariant.1, c.part_size-sum.ensures.1))
 
 pub returns : goal.returns
 unfolding section_lines
 returns c =
     let l = c.loop-i in
     let s = sheet_of c.args.sheet.now in
-    let e : l.i ≡ parts s (section_of c.args.section) = omega (arith, l.invariant.0, c.parts-parts.ensures.0) in
-    (l.invariant.1 ∙ ap (λ k. length (each (up_to k) (part_lines s (section_of c.args.section)))) e, omega (arith, l.invariant, c.parts-parts.ensures.1))
+    let e : l.i ≡ parts s (section_of c.args.section) = omega (arith, l.auto.i-end, c.parts-parts.ensures.0) in
+    (l.invariant.0 ∙ ap (λ k. length (each (up_to k) (part_lines s (section_of c.args.section)))) e, omega (arith, l.invariant, c.parts-parts.ensures.1))

@@ -46,7 +46,7 @@ module _ (c : lts.After-spread tie.the-claims reads.Pre reads.Post) where
 pub sum_code-first-requires : goal.sum_code-first-requires
 sum_code-first-requires c =
     let at_fields = c.fields-fields in
-    (c.requires.0, low_in (s c.before.before.before.before) c.requires.0.1 c.args.r c.requires.1 at_fields.result (omega (arith, at_fields.ensures)) c.least.result c.least.ensures, omega arith)
+    (c.requires.0, low_in (s c.before.before.before.before) c.requires.0.1 c.args.r c.requires.1 at_fields.result (omega (arith, at_fields.ensures)) c.least.result c.least.ensures)
 
 pub overflow_sub-over : goal.overflow_sub-over
 overflow_sub-over c = omega (arith, inside c.before)

@@ -16,7 +16,7 @@ use Rattle.size_sum.proofs.constraint_size.Goals as goal
 pub sum_code-requires : goal.sum_code-requires
 sum_code-requires c =
     let s = sheet_of c.args.sheet.now in
-    (c.requires.0, (c.requires.1, omega arith, sum_zero s (constraint s c.args.r)), omega arith)
+    (c.requires.0, (c.requires.1, omega arith, sum_zero s (constraint s c.args.r)))
 
 pub literal_size-zero-requires : goal.literal_size-zero-requires
 literal_size-zero-requires c =

@@ -62,7 +62,7 @@ least-requires c =
 
 pub sum_code-here-requires : goal.sum_code-here-requires
 sum_code-here-requires c =
-    (c.requires.0, low_in (s c.before.before.before.before) c.requires.0.1 c.args.r c.requires.1 c.args.k (omega (arith, c.requires.2)) c.least.result c.least.ensures, omega arith)
+    (c.requires.0, low_in (s c.before.before.before.before) c.requires.0.1 c.args.r c.requires.1 c.args.k (omega (arith, c.requires.2)) c.least.result c.least.ensures)
 
 pub overflow_add-k : goal.overflow_add-k
 overflow_add-k c = omega (arith, field-few c.before.before.before.before.before)
@@ -76,7 +76,7 @@ least-requires-2 c =
 
 pub sum_code-next-requires : goal.sum_code-next-requires
 sum_code-next-requires c =
-    (c.requires.0, low_in (s c.before.before.before.before.before.before) c.requires.0.1 c.args.r c.requires.1 (c.args.k + 1) (omega (arith, c.requires.2)) c.least-2.result c.least-2.ensures, omega arith)
+    (c.requires.0, low_in (s c.before.before.before.before.before.before) c.requires.0.1 c.args.r c.requires.1 (c.args.k + 1) (omega (arith, c.requires.2)) c.least-2.result c.least-2.ensures)
 
 pub spread-n-requires : goal.spread-n-requires
 spread-n-requires c =
@@ -86,7 +86,7 @@ pub overflow_add-n : goal.overflow_add-n
 overflow_add-n c = omega (arith, c.spread-n.ensures.1)
 
 pub loop-d-init : goal.loop-d-init
-loop-d-init c = (omega arith, sym (total-none (with-length c.before)), omega arith)
+loop-d-init c = (sym (total-none (with-length c.before)), omega arith)
 
 pub length_size-sum-requires : goal.length_size-sum-requires
 length_size-sum-requires c =
@@ -97,20 +97,17 @@ length_size-sum-requires c =
 pub overflow_add-sum : goal.overflow_add-sum
 overflow_add-sum c = omega (arith, c.loop-d.invariant, c.length_size-sum.ensures.1, (limit-of c.before.before.before.before).limit-limit.ensures.1)
 
-pub overflow_add-d : goal.overflow_add-d
-overflow_add-d c = omega (arith, (limit-of c.before.before.before.before).limit-limit.ensures.1, c.loop-d-test.true)
-
 pub loop-d-preserved : goal.loop-d-preserved
 loop-d-preserved c =
     let l = c.loop-d in
     let more = total-more l.d (with-length c.before.before.before.before) in
-    (omega (arith, c.loop-d-test.true), omega (arith, l.invariant.1, c.length_size-sum.ensures.0), omega (arith, l.invariant.2, c.length_size-sum.ensures.1))
+    (omega (arith, l.invariant.0, c.length_size-sum.ensures.0), omega (arith, l.invariant.1, c.length_size-sum.ensures.1))
 
 pub returns : goal.returns
 returns c =
     let l = c.loop-d in
     let start = start_of c.before.before.before in
     let sums : c.spread-n.result + 1 ≡ suc (spread (s start) (rule start) start.args.k) = omega arith in
-    let lengths : l.d ≡ suc (model.limit (s start) start.args.k) = omega (arith, l.invariant.0, (limit-of c.before.before.before).limit-limit.ensures.0) in
+    let lengths : l.d ≡ suc (model.limit (s start) start.args.k) = omega (arith, l.auto.d-end, (limit-of c.before.before.before).limit-limit.ensures.0) in
     let all = ap₂ (λ e m. total e (λ d. total m (λ i. length (line_of (s start) (Add start.args.r start.args.k (least (s start) (rule start) start.args.k +ℤ pos i) d))))) lengths sums in
-    (l.invariant.1 ∙ all ∙ sym (step_lines_lem (s start) start.args.r start.args.k), omega (arith, l.invariant, (limit-of c.before.before.before).limit-limit.ensures.1))
+    (l.invariant.0 ∙ all ∙ sym (step_lines_lem (s start) start.args.r start.args.k), omega (arith, l.invariant, (limit-of c.before.before.before).limit-limit.ensures.1))

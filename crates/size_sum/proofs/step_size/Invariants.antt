@@ -9,7 +9,4 @@ use Rattle.literals.specs.Name.{line_of}
 use Rattle.size_sum.proofs.step_size.Given as goal
 
 abbrev pub invariant-loop-d : goal.invariant-loop-d
-invariant-loop-d l = (l.d ≤ l.limit + 1) × (l.sum ≡ total l.d (λ d'. total l.n (λ m. length (line_of (sheet_of l.sheet) (Add l.r l.k (least (sheet_of l.sheet) (constraint (sheet_of l.sheet) l.r) l.k +ℤ pos m) d'))))) × (l.sum ≤ l.d * 6000)
-
-abbrev pub decreases-loop-d : goal.decreases-loop-d
-decreases-loop-d l = l.limit + 1 - l.d
+invariant-loop-d l = (l.sum ≡ total l.d (λ d'. total l.n (λ m. length (line_of (sheet_of l.sheet) (Add l.r l.k (least (sheet_of l.sheet) (constraint (sheet_of l.sheet) l.r) l.k +ℤ pos m) d'))))) × (l.sum ≤ l.d * 6000)

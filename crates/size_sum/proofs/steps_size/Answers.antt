@@ -16,7 +16,7 @@ fields-fields-requires c = c.requires.0
 
 pub loop-k-init : goal.loop-k-init
 loop-k-init c =
-    (omega arith, sym (length_none (step_lines (sheet_of c.args.sheet.now) c.args.r)), omega arith)
+    (sym (length_none (step_lines (sheet_of c.args.sheet.now) c.args.r)), omega arith)
 
 pub step_size-sum-requires : goal.step_size-sum-requires
 step_size-sum-requires c =
@@ -25,18 +25,15 @@ step_size-sum-requires c =
 pub overflow_add-sum : goal.overflow_add-sum
 overflow_add-sum c = omega (arith, c.loop-k.invariant, c.step_size-sum.ensures.1, c.fields-fields.ensures, fields-few (sheet_of c.args.sheet.now) c.requires.0.1)
 
-pub overflow_add-k : goal.overflow_add-k
-overflow_add-k c = omega (arith, c.loop-k-test.true, c.fields-fields.ensures, fields-few (sheet_of c.args.sheet.now) c.requires.0.1)
-
 pub loop-k-preserved : goal.loop-k-preserved
 loop-k-preserved c =
     let l = c.loop-k in
     let more = length_more (step_lines (sheet_of c.args.sheet.now) c.args.r) l.k in
-    (omega (arith, c.loop-k-test.true), omega (arith, l.invariant.1, c.step_size-sum.ensures.0), omega (arith, l.invariant.2, c.step_size-sum.ensures.1))
+    (omega (arith, l.invariant.0, c.step_size-sum.ensures.0), omega (arith, l.invariant.1, c.step_size-sum.ensures.1))
 
 pub returns : goal.returns
 returns c =
     let l = c.loop-k in
     let s = sheet_of c.args.sheet.now in
-    let e : l.k ≡ fields s = omega (arith, l.invariant.0, c.fields-fields.ensures) in
-    (l.invariant.1 ∙ ap (λ k. length (each (up_to k) (step_lines s c.args.r))) e, omega (arith, l.invariant, c.fields-fields.ensures, fields-few s c.requires.0.1))
+    let e : l.k ≡ fields s = omega (arith, l.auto.k-end, c.fields-fields.ensures) in
+    (l.invariant.0 ∙ ap (λ k. length (each (up_to k) (step_lines s c.args.r))) e, omega (arith, l.invariant, c.fields-fields.ensures, fields-few s c.requires.0.1))

@@ -8,7 +8,4 @@ use Rattle.sums.specs.Lines.{step_lines}
 use Rattle.size_sum.proofs.steps_size.Given as goal
 
 abbrev pub invariant-loop-k : goal.invariant-loop-k
-invariant-loop-k l = (l.k ≤ l.fields) × (l.sum ≡ length (each (up_to l.k) (step_lines (sheet_of l.sheet) l.r))) × (l.sum ≤ l.k * 60000)
-
-abbrev pub decreases-loop-k : goal.decreases-loop-k
-decreases-loop-k l = l.fields - l.k
+invariant-loop-k l = (l.sum ≡ length (each (up_to l.k) (step_lines (sheet_of l.sheet) l.r))) × (l.sum ≤ l.k * 60000)

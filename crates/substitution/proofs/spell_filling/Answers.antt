@@ -4,6 +4,7 @@ use mathlib.Core.List.{List, [], ◌∷◌, map}
 use Prim.Native.Nat.{ℕ, ◌<◌}
 use native.Mathlib.Omega.{arith}
 use lib.ListN.{length, take, replicate, length-map}
+use Rattle.std.proofs.lemmas.Result.{err_from_is_err_and}
 use Rattle.model.specs.Lists.{All, placed}
 use Rattle.model.specs.Sheet.{sheet_of, template, symbol_of, letter_of}
 use Rattle.model.specs.Word.{spell, letter_bytes}
@@ -12,7 +13,6 @@ use Rattle.model.proofs.Seams.{front_is, front_fits, front_length, placed_front}
 use Rattle.model.proofs.Templates.{template_in}
 use Rattle.model.proofs.Words.{spell_over}
 use Rattle.calls.proofs.Operations.{spelling-filling, spelling-room, spelling-text, leaves_all, leaves_text}
-use Rattle.fields.specs.Answer.{IsAdmitted, number_of}
 use Rattle.fields.specs.Memory.{texts_of, meaning}
 use Rattle.words.proofs.Meaning.{word-is, can_spell}
 use Rattle.substitution.proofs.spell_filling.Goals as goal
@@ -26,8 +26,7 @@ admit-requires c =
 
 pub load-g-requires : goal.load-g-requires
 load-g-requires c =
-    let at-admit = c.admit in
-    (c.requires.0, sym at-admit.ensures ∙ ap IsAdmitted c.in-Admitted.is)
+    (c.requires.0, sym (c.in_ok-admit.ensures {u = tt}))
 
 pub template-requires : goal.template-requires
 template-requires c =
@@ -39,10 +38,10 @@ spell-n-requires c =
     can_spell c.args.sheet.now at_load.result at_load.ensures.0 c.args.equation c.args.side c.requires.1 c.template.result.now c.template.ensures
 
 -- the word that is spelled
-abbrev written-word : (c : lts.After-template tie.the-claims reads.Pre reads.Post) → List ℕ
+abbrev written-word : (c : lts.After-template tie.the-claims reads.Pre reads.Post tie.handed_clauses) → List ℕ
 written-word c = spell (texts_of c.load-g.result) (map symbol_of c.template.result.now)
 
-word-there : (c : lts.After-word2 tie.the-claims reads.Pre reads.Post) →
+word-there : (c : lts.After-word2 tie.the-claims reads.Pre reads.Post tie.handed_clauses) →
     take c.spell-n.result c.spell-n.new.word ≡ spell (meaning c.args.sheet.now c.load-g.result) (template (sheet_of c.args.sheet.now) c.args.equation c.args.side)
 word-there c =
     let at_load = c.load-g in
@@ -50,7 +49,7 @@ word-there c =
     front_is (replicate 24 0) (written-word c.before.before) c.spell-n.new.word c.spell-n.result c.spell-n.ensures
     ∙ word-is c.args.sheet.now at_load.result at_load.ensures.0 c.args.equation c.args.side c.requires.1 at-template.result.now at-template.ensures
 
-text-length : (c : lts.After-word2 tie.the-claims reads.Pre reads.Post) →
+text-length : (c : lts.After-word2 tie.the-claims reads.Pre reads.Post tie.handed_clauses) →
     c.spell-n.result ≡ length (spelled_text (sheet_of c.args.sheet.now) c.args.equation c.args.side (meaning c.args.sheet.now c.load-g.result))
 text-length c =
     let at_load = c.load-g in
@@ -85,14 +84,14 @@ put_letters-requires c =
     let over = spell_over s (meaning a.sheet.now at_load.result) at_load.ensures.0.legal (template s a.equation a.side) t.symbols in
     (c.requires.0, subst (All (λ x. x < length s.letters)) (sym (word-there c.before.before.before.before)) over, omega (arith, at-if1.false, front_length (replicate 24 0) (written-word c.before.before.before.before.before.before) at-spell.new.word at-spell.result at-spell.ensures))
 
-pub returns-in-Refused : goal.returns-in-Refused
-returns-in-Refused c =
-    let at-admit = c.admit in
+pub returns-in_err-admit : goal.returns-in_err-admit
+returns-in_err-admit c =
+    let told = err_from_is_err_and c.from_residual.result c.from_residual.ensures.1 in
     let a = c.args in
-    leaves_all (number_of c.in-Refused.fault) a.buf.now (spelling-filling (sheet_of a.sheet.now) a.equation a.side a.bytes.now (length a.buf.now) (number_of c.in-Refused.fault) (sym at-admit.ensures ∙ ap IsAdmitted c.in-Refused.is))
+    rw (told.1, told.2) (leaves_all _ a.buf.now (spelling-filling (sheet_of a.sheet.now) a.equation a.side a.bytes.now (length a.buf.now) _ (sym (c.in_err-admit.ensures {u = tt}))))
 
-pub returns-else-buf-n : goal.returns-else-buf-n
-returns-else-buf-n c =
+pub returns : goal.returns
+returns c =
     let at_load = c.load-g in
     let at-if1 = c.if-buf-n in
     let at-put-letters = c.put_letters in

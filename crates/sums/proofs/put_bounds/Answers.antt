@@ -47,7 +47,7 @@ least-requires c =
 pub sum_code-first-requires : goal.sum_code-first-requires
 sum_code-first-requires c =
     let at_fields = c.fields-fields in
-    (c.requires.0, low_in (s c.before.before.before.before.before) c.requires.0.1 c.args.r c.requires.1 at_fields.result (omega (arith, at_fields.ensures)) c.least.result c.least.ensures, omega arith)
+    (c.requires.0, low_in (s c.before.before.before.before.before) c.requires.0.1 c.args.r c.requires.1 at_fields.result (omega (arith, at_fields.ensures)) c.least.result c.least.ensures)
 
 pub within-within-requires : goal.within-within-requires
 within-within-requires c =
@@ -84,7 +84,7 @@ pub overflow_sub-over : goal.overflow_sub-over
 overflow_sub-over c = omega (arith, c.within-within.ensures.0, spread-is c.before, within_le (s (start_of c.before)) (rule (start_of c.before)))
 
 pub loop-n-init : goal.loop-n-init
-loop-n-init c = (omega arith, loop_none (lines (start_of c.before)))
+loop-n-init c = loop_none (lines (start_of c.before))
 
 -- a turn: one of the lines, by its code
 module _ (c : lts.In-loop tie.the-claims reads.Pre reads.Post goal.the-invariant-loop-n goal.the-decreases-loop-n) where
@@ -121,11 +121,8 @@ overflow_add-first-in-loop-n-2 c = omega (arith, codes-few c.before.before)
 pub clause_line-past-requires : goal.clause_line-past-requires
 clause_line-past-requires c =
     let start = start_of (known c.before.before.before) in
-    let free = loop_room (lines start) (count start) (room start) c.loop-n.invariant.1 (below c.before.before.before) in
+    let free = loop_room (lines start) (count start) (room start) c.loop-n.invariant (below c.before.before.before) in
     omega (arith, ap length (line-is c.before.before.before))
-
-pub overflow_add-n : goal.overflow_add-n
-overflow_add-n c = omega (arith, codes-few c.before.before.before.before.before.before)
 
 pub loop-n-preserved : goal.loop-n-preserved
 loop-n-preserved c =
@@ -133,13 +130,10 @@ loop-n-preserved c =
     let at-loop = c.loop-n in
     let start = start_of (known c.before.before.before.before.before.before) in
     let piece = subst (λ w. Puts at-loop.buf at-loop.past w at-clause-line.new.buf at-clause-line.result) (sym (line-is c.before.before.before.before.before.before)) at-clause-line.ensures in
-    (omega (arith, c.loop-n-test.true), loop_next (lines start) (count start) (room start) at-loop.invariant.1 (below c.before.before.before.before.before.before) at-clause-line.new.buf at-clause-line.result piece at-clause-line.auto.buf)
-
-pub shape_of-buf : goal.shape_of-buf
-shape_of-buf c = c.loop-n.invariant.1.long
+    loop_next (lines start) (count start) (room start) at-loop.invariant (below c.before.before.before.before.before.before) at-clause-line.new.buf at-clause-line.result piece at-clause-line.auto.buf
 
 pub returns : goal.returns
 unfolding bound_lines
 returns c =
     let start = start_of c.before.before.before in
-    loop_done (lines start) (count start) (room start) c.loop-n.invariant.1 (omega (arith, c.within-within.ensures.0, spread-is c.before.before.before))
+    loop_done (lines start) (count start) (room start) c.loop-n.invariant (omega (arith, c.within-within.ensures.0, spread-is c.before.before.before))

@@ -6,7 +6,4 @@ use Rattle.sums.specs.Lines.{bound_line}
 use Rattle.sums.proofs.put_bounds.Given as goal
 
 abbrev pub invariant-loop-n : goal.invariant-loop-n
-invariant-loop-n l = (l.n ≤ l.over) × Written l.initial.buf l.at (each (up_to l.n) (bound_line (sheet_of l.sheet) l.r)) l.buf l.past
-
-abbrev pub decreases-loop-n : goal.decreases-loop-n
-decreases-loop-n l = l.over - l.n
+invariant-loop-n l = Written l.initial.buf l.at (each (up_to l.n) (bound_line (sheet_of l.sheet) l.r)) l.buf l.past

@@ -71,7 +71,7 @@ least-low-requires c =
 
 pub sum_code-here-requires : goal.sum_code-here-requires
 sum_code-here-requires c =
-    (c.requires.0, low_in (s c.before.before.before.before.before.before.before) c.requires.0.1 c.args.r c.requires.1 c.args.k (omega (arith, c.requires.2)) c.least-low.result c.least-low.ensures, omega arith)
+    (c.requires.0, low_in (s c.before.before.before.before.before.before.before) c.requires.0.1 c.args.r c.requires.1 c.args.k (omega (arith, c.requires.2)) c.least-low.result c.least-low.ensures)
 
 pub overflow_add-k : goal.overflow_add-k
 overflow_add-k c = omega (arith, field-few c.before.before.before.before.before.before.before.before)
@@ -85,7 +85,7 @@ overflow_add-k-2 c = omega (arith, field-few c.before.before.before.before.befor
 
 pub sum_code-first-requires : goal.sum_code-first-requires
 sum_code-first-requires c =
-    (c.requires.0, low_in (s c.before.before.before.before.before.before.before.before.before) c.requires.0.1 c.args.r c.requires.1 (c.args.k + 1) (omega (arith, c.requires.2)) c.least-next.result c.least-next.ensures, omega arith)
+    (c.requires.0, low_in (s c.before.before.before.before.before.before.before.before.before) c.requires.0.1 c.args.r c.requires.1 (c.args.k + 1) (omega (arith, c.requires.2)) c.least-next.result c.least-next.ensures)
 
 pub coefficient-c-requires : goal.coefficient-c-requires
 coefficient-c-requires c =
@@ -122,7 +122,7 @@ module _ (c : lts.After-spread tie.the-claims reads.Pre reads.Post goal.the-inva
   first_code = low_code (s start_of) start_of.requires.0.1 start_of.args.r start_of.requires.1 (start_of.args.k + 1) (omega (arith, start_of.requires.2)) after_next.least-next.result after_next.least-next.ensures first c.sum_code-first.ensures
 
 pub loop-m-init : goal.loop-m-init
-loop-m-init c = (omega arith, loop_none (lines (start_of c.before)))
+loop-m-init c = loop_none (lines (start_of c.before))
 
 -- a turn: the sum at hand, and the line of each length, as the machine has them
 module _ (c : lts.In-loop tie.the-claims reads.Pre reads.Post goal.the-invariant-loop-m goal.the-decreases-loop-m) where
@@ -199,11 +199,8 @@ pub put_sum-past-requires : goal.put_sum-past-requires
 put_sum-past-requires c =
     let from = start c.before.before in
     let facts = known c.before.before in
-    let free = loop_room (lines from) (count from) (room from) c.loop-m.invariant.1 (omega (arith, one_of c.before.before)) in
+    let free = loop_room (lines from) (count from) (room from) c.loop-m.invariant (omega (arith, one_of c.before.before)) in
     (codes-few c.before.before, (after-here facts).first_blank-blank.ensures.1, omega (arith, letters-small (after_letters facts)), (after_letters facts).limit-limit.ensures.1, (told c.before.before).1, omega (arith, ap length (told c.before.before).0))
-
-pub overflow_add-m : goal.overflow_add-m
-overflow_add-m c = omega (arith, codes-few c.before.before.before.before.before)
 
 pub loop-m-preserved : goal.loop-m-preserved
 loop-m-preserved c =
@@ -211,13 +208,10 @@ loop-m-preserved c =
     let at-loop = c.loop-m in
     let from = start c.before.before.before.before.before in
     let piece = subst (λ w. Puts at-loop.buf at-loop.past w at-put-sum.new.buf at-put-sum.result) (sym (told c.before.before.before.before.before).0) at-put-sum.ensures in
-    (omega (arith, c.loop-m-test.true), loop_next (lines from) (count from) (room from) at-loop.invariant.1 (omega (arith, one_of c.before.before.before.before.before)) at-put-sum.new.buf at-put-sum.result piece at-put-sum.auto.buf)
-
-pub shape_of-buf : goal.shape_of-buf
-shape_of-buf c = c.loop-m.invariant.1.long
+    loop_next (lines from) (count from) (room from) at-loop.invariant (omega (arith, one_of c.before.before.before.before.before)) at-put-sum.new.buf at-put-sum.result piece at-put-sum.auto.buf
 
 pub returns : goal.returns
 unfolding step_lines
 returns c =
     let from = start_of c.before.before.before in
-    loop_done (lines from) (count from) (room from) c.loop-m.invariant.1 (omega (arith, c.spread-last.ensures.0))
+    loop_done (lines from) (count from) (room from) c.loop-m.invariant (omega (arith, c.spread-last.ensures.0))

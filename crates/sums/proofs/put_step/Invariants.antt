@@ -6,7 +6,4 @@ use Rattle.sums.specs.Lines.{sum_lines}
 use Rattle.sums.proofs.put_step.Given as goal
 
 abbrev pub invariant-loop-m : goal.invariant-loop-m
-invariant-loop-m l = (l.m ≤ l.last + 1) × Written l.initial.buf l.at (each (up_to l.m) (sum_lines (sheet_of l.sheet) l.r l.k)) l.buf l.past
-
-abbrev pub decreases-loop-m : goal.decreases-loop-m
-decreases-loop-m l = l.last + 1 - l.m
+invariant-loop-m l = Written l.initial.buf l.at (each (up_to l.m) (sum_lines (sheet_of l.sheet) l.r l.k)) l.buf l.past

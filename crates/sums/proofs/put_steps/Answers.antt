@@ -15,7 +15,7 @@ fields-fields-requires c =
 pub loop-k-init : goal.loop-k-init
 loop-k-init c =
     let a = c.args in
-    (omega arith, loop_none (step_lines (sheet_of c.args.sheet.now) a.r))
+    loop_none (step_lines (sheet_of c.args.sheet.now) a.r)
 
 pub put_step-past-requires : goal.put_step-past-requires
 put_step-past-requires c =
@@ -23,12 +23,7 @@ put_step-past-requires c =
     let at-loop-test = c.loop-k-test in
     let at-loop = c.loop-k in
     let a = c.args in
-    (c.requires.0, c.requires.1, omega (arith, at_fields.ensures, at-loop-test.true), loop_room (step_lines (sheet_of c.args.sheet.now) a.r) (fields (sheet_of c.args.sheet.now)) c.requires.2 at-loop.invariant.1 (omega (arith, at_fields.ensures, at-loop-test.true)))
-
-pub overflow_add-k : goal.overflow_add-k
-overflow_add-k c =
-    let at_fields = c.fields-fields in
-    omega (arith, at_fields.ensures, fields-few (sheet_of c.args.sheet.now) c.requires.0.1)
+    (c.requires.0, c.requires.1, omega (arith, at_fields.ensures, at-loop-test.true), loop_room (step_lines (sheet_of c.args.sheet.now) a.r) (fields (sheet_of c.args.sheet.now)) c.requires.2 at-loop.invariant (omega (arith, at_fields.ensures, at-loop-test.true)))
 
 pub loop-k-preserved : goal.loop-k-preserved
 loop-k-preserved c =
@@ -37,14 +32,11 @@ loop-k-preserved c =
     let at-loop-test = c.loop-k-test in
     let at-put-step = c.put_step-past in
     let a = c.args in
-    (omega arith, loop_next (step_lines (sheet_of c.args.sheet.now) a.r) (fields (sheet_of c.args.sheet.now)) c.requires.2 at-loop.invariant.1 (omega (arith, at_fields.ensures, at-loop-test.true)) at-put-step.new.buf at-put-step.result at-put-step.ensures at-put-step.auto.buf)
-
-pub shape_of-buf : goal.shape_of-buf
-shape_of-buf c = c.loop-k.invariant.1.long
+    loop_next (step_lines (sheet_of c.args.sheet.now) a.r) (fields (sheet_of c.args.sheet.now)) c.requires.2 at-loop.invariant (omega (arith, at_fields.ensures, at-loop-test.true)) at-put-step.new.buf at-put-step.result at-put-step.ensures at-put-step.auto.buf
 
 pub returns : goal.returns
 returns c =
     let at-loop = c.loop-k in
     let at_fields = c.fields-fields in
     let a = c.args in
-    loop_done (step_lines (sheet_of c.args.sheet.now) a.r) (fields (sheet_of c.args.sheet.now)) c.requires.2 at-loop.invariant.1 (omega (arith, at_fields.ensures))
+    loop_done (step_lines (sheet_of c.args.sheet.now) a.r) (fields (sheet_of c.args.sheet.now)) c.requires.2 at-loop.invariant (omega (arith, at_fields.ensures))

@@ -7,7 +7,4 @@ use Rattle.sums.specs.Lines.{step_lines}
 use Rattle.sums.proofs.put_steps.Given as goal
 
 abbrev pub invariant-loop-k : goal.invariant-loop-k
-invariant-loop-k l = (l.k ≤ l.fields) × Written l.initial.buf l.at (each (up_to l.k) (step_lines (sheet_of l.sheet) l.r)) l.buf l.past
-
-abbrev pub decreases-loop-k : goal.decreases-loop-k
-decreases-loop-k l = l.fields - l.k
+invariant-loop-k l = Written l.initial.buf l.at (each (up_to l.k) (step_lines (sheet_of l.sheet) l.r)) l.buf l.past

@@ -43,7 +43,7 @@ module _ (c : lts.Start tie.the-claims reads.Pre reads.Post goal.the-invariant-l
 
 pub loop-d-init : goal.loop-d-init
 loop-d-init c =
-    (omega arith, loop_none (machine c.before.before))
+    loop_none (machine c.before.before)
 
 pub shorter-short-requires : goal.shorter-short-requires
 shorter-short-requires c =
@@ -59,7 +59,7 @@ pub next_code-next-requires : goal.next_code-next-requires
 next_code-next-requires c =
     let at-loop = c.loop-d in
     let at-loop-test = c.loop-d-test in
-    rw (low_back c.before.before.before.before.before, coefficient_back c.before.before.before.before.before, sum_is c.before.before.before.before.before) (c.requires.4 at-loop.d at-loop-test.true)
+    rw (low_back c.before.before.before.before.before, coefficient_back c.before.before.before.before.before, sum_is c.before.before.before.before.before) (c.requires.4 at-loop.d (omega (arith, at-loop-test.true)))
 
 -- the line of length d, as the machine has it
 abbrev start_of : lts.In-loop tie.the-claims reads.Pre reads.Post goal.the-invariant-loop-d goal.the-decreases-loop-d → lts.Start tie.the-claims reads.Pre reads.Post goal.the-invariant-loop-d goal.the-decreases-loop-d
@@ -78,11 +78,7 @@ clause_line-past-requires c =
     let in-loop = loop-of c.before.before in
     let at-loop = in-loop.loop-d in
     let start = start_of in-loop in
-    subst (λ w. at-loop.past + length w ≤ length at-loop.buf) (sym (line-is c.before.before)) (loop_room (machine start) (suc start.args.limit) (room start) at-loop.invariant.1 (omega (arith, in-loop.loop-d-test.true)))
-
-pub overflow_add-d : goal.overflow_add-d
-overflow_add-d c =
-    omega (arith, c.loop-d-test.true, (start_of c.before.before.before.before.before.before.before.before.before).requires.3)
+    subst (λ w. at-loop.past + length w ≤ length at-loop.buf) (sym (line-is c.before.before)) (loop_room (machine start) (suc start.args.limit) (room start) at-loop.invariant (omega (arith, in-loop.loop-d-test.true)))
 
 pub loop-d-preserved : goal.loop-d-preserved
 loop-d-preserved c =
@@ -91,13 +87,10 @@ loop-d-preserved c =
     let at-loop = in-loop.loop-d in
     let start = start_of in-loop in
     let piece = subst (λ w. Puts at-loop.buf at-loop.past w at-clause-line.new.buf at-clause-line.result) (line-is c.before.before.before.before.before.before) at-clause-line.ensures in
-    (omega (arith, in-loop.loop-d-test.true), loop_next (machine start) (suc start.args.limit) (room start) at-loop.invariant.1 (omega (arith, in-loop.loop-d-test.true)) at-clause-line.new.buf at-clause-line.result piece at-clause-line.auto.buf)
-
-pub shape_of-buf : goal.shape_of-buf
-shape_of-buf c = c.loop-d.invariant.1.long
+    loop_next (machine start) (suc start.args.limit) (room start) at-loop.invariant (omega (arith, in-loop.loop-d-test.true)) at-clause-line.new.buf at-clause-line.result piece at-clause-line.auto.buf
 
 pub returns : goal.returns
 returns c =
     let at-loop = c.loop-d in
     let a = c.args in
-    subst (λ (g : ℕ → List ℕ). Puts a.buf.now a.at (each (up_to (suc a.limit)) g) at-loop.buf at-loop.past) (backs c.before.before.before) (loop_done (machine c.before.before.before) (suc c.args.limit) (room c.before.before.before) at-loop.invariant.1 (omega arith))
+    subst (λ (g : ℕ → List ℕ). Puts a.buf.now a.at (each (up_to (suc a.limit)) g) at-loop.buf at-loop.past) (backs c.before.before.before) (loop_done (machine c.before.before.before) (suc c.args.limit) (room c.before.before.before) at-loop.invariant (omega arith))

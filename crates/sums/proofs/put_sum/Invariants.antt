@@ -5,7 +5,4 @@ use Rattle.sums.specs.Codes.{add_line}
 use Rattle.sums.proofs.put_sum.Given as goal
 
 abbrev pub invariant-loop-d : goal.invariant-loop-d
-invariant-loop-d l = (l.d ≤ l.limit + 1) × Written l.initial.buf l.at (each (up_to l.d) (add_line l.here l.blank l.stride l.limit l.first l.low l.c l.n)) l.buf l.past
-
-abbrev pub decreases-loop-d : goal.decreases-loop-d
-decreases-loop-d l = l.limit + 1 - l.d
+invariant-loop-d l = Written l.initial.buf l.at (each (up_to l.d) (add_line l.here l.blank l.stride l.limit l.first l.low l.c l.n)) l.buf l.past

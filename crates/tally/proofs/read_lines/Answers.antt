@@ -1,6 +1,6 @@
 -- `tally::read_lines` meets its contract. The loop's invariant: what is left of the text decides what all of it does, with the tally and the
 -- marks that the lines before have come to. Assumes nothing.
-use mathlib.Core.Path.{subst, ◌∙◌}
+use mathlib.Core.Path.{subst}
 use Prim.Native.Nat.{◌-◌}
 use native.Mathlib.Omega.{arith}
 use lib.ListN.{take, drop, length-drop}
@@ -22,21 +22,16 @@ read_line-requires c =
     let k = length-take-le (end - at-loop.at) (drop at-loop.at text) (omega arith) in
     (omega arith, omega arith)
 
-pub shape_of-marks-in-Unknown : goal.shape_of-marks-in-Unknown
-shape_of-marks-in-Unknown c =
-    c.read_line.auto.marks
-    ∙ c.loop-at.invariant.long
-
-pub returns-in-Unknown : goal.returns-in-Unknown
-returns-in-Unknown c =
+pub returns-in_err-sum : goal.returns-in_err-sum
+returns-in_err-sum c =
     let at-loop = c.loop-at in
     let at-find = c.find-end in
     let at-line = c.read_line in
     let a = c.args in
     let text = a.text.now in
     let line = take (at-find.result - at-loop.at) (drop at-loop.at text) in
-    passed_unknown a.marks.now text at-loop.at at-loop.marks at-loop.sum at-loop.invariant (omega arith) at-find.result at-find.ensures.0
-    at-line.new.marks (subst (λ r. ReadLine at-loop.marks at-loop.sum line r at-line.new.marks) c.in-Unknown.is at-line.ensures)
+    rw c.from_residual.ensures (passed_unknown a.marks.now text at-loop.at at-loop.marks at-loop.sum at-loop.invariant (omega arith) at-find.result at-find.ensures.0
+    at-line.new.marks (subst (λ r. ReadLine at-loop.marks at-loop.sum line r at-line.new.marks) (c.in_err-sum.was {u = tt}) at-line.ensures))
 
 pub loop-at-preserved : goal.loop-at-preserved
 loop-at-preserved c =
@@ -47,8 +42,8 @@ loop-at-preserved c =
     let text = a.text.now in
     let line = take (at-find.result - at-loop.at) (drop at-loop.at text) in
     passed_more a.marks.now text at-loop.at at-loop.marks at-loop.sum at-loop.invariant (omega arith) at-find.result at-find.ensures.0
-    at-line.new.marks c.in-Known.next at-line.auto.marks
-    (subst (λ r. ReadLine at-loop.marks at-loop.sum line r at-line.new.marks) c.in-Known.is at-line.ensures)
+    at-line.new.marks c.in_ok-sum.sum at-line.auto.marks
+    (subst (λ r. ReadLine at-loop.marks at-loop.sum line r at-line.new.marks) (c.in_ok-sum.was {u = tt}) at-line.ensures)
 
 pub shape_of-marks : goal.shape_of-marks
 shape_of-marks c = c.loop-at.invariant.long

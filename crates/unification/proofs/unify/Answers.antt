@@ -10,14 +10,14 @@ returns-then-u-v c = simp (eq-eqb _ _ c.if-u-v.true)
 pub returns-then-u-ge-FIRST_PLACE : goal.returns-then-u-ge-FIRST_PLACE
 unfolding unify_of
 returns-then-u-ge-FIRST_PLACE c =
-    simp (ne_eqb _ _ c.if-u-v.false, le-ltb _ _ c.if-u-ge-FIRST_PLACE.true, c.rename.ensures)
+    simp (ne_eqb _ _ c.if-u-v.false, le-ltb _ _ c.if-u-ge-FIRST_PLACE.true, c.replace.ensures)
 
 pub returns-then-v-ge-FIRST_PLACE : goal.returns-then-v-ge-FIRST_PLACE
 unfolding unify_of
 returns-then-v-ge-FIRST_PLACE c =
-    simp (ne_eqb _ _ c.if-u-v.false, lt-ltb _ _ c.if-u-ge-FIRST_PLACE.false, le-ltb _ _ c.if-v-ge-FIRST_PLACE.true, c.rename-then-v-ge-FIRST_PLACE.ensures)
+    simp (ne_eqb _ _ c.if-u-v.false, lt-ltb _ _ c.if-u-ge-FIRST_PLACE.false, le-ltb _ _ c.if-v-ge-FIRST_PLACE.true, c.replace-then-v-ge-FIRST_PLACE.ensures)
 
-pub returns : goal.returns
+pub returns-else-v-ge-FIRST_PLACE : goal.returns-else-v-ge-FIRST_PLACE
 unfolding unify_of
-returns c =
+returns-else-v-ge-FIRST_PLACE c =
     simp (ne_eqb _ _ c.if-u-v.false, lt-ltb _ _ c.if-u-ge-FIRST_PLACE.false, lt-ltb _ _ c.if-v-ge-FIRST_PLACE.false)

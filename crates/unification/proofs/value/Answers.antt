@@ -9,4 +9,4 @@ returns-then-u-lt-FIRST_PLACE c = simp (lt-ltb _ _ c.if-u-lt-FIRST_PLACE.true)
 
 pub returns : goal.returns
 unfolding value_of
-returns c = simp (le-ltb _ _ c.if-u-lt-FIRST_PLACE.false)
+returns c = simp (le-ltb _ _ c.if-u-lt-FIRST_PLACE.false, c.from.ensures, c.from-2.ensures)

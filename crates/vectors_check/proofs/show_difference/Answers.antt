@@ -17,7 +17,7 @@ load-requires g c = clash_ready c.args.sheet.now c.args.filling.now (lent_bytes 
 pub store-requires : goal.store-requires
 store-requires g c =
     let held = c.load.ensures.0 in
-    let n : c.wide-fields.result ≡ length (sheet_of c.args.sheet.now).limits = c.wide-fields.ensures.0 ∙ ap (λ (n : Counts). n.field_count) c.four_counts.ensures in
+    let n : c.from-fields.result ≡ length (sheet_of c.args.sheet.now).limits = c.from-fields.ensures ∙ ap (λ (n : Counts). n.field_count) c.four_counts.ensures in
     let few = held.in_range.counts_in.of_fields in
     (held.whole, held.six, omega arith, omega arith)
 
@@ -25,7 +25,7 @@ pub slice_bounds-buf-end : goal.slice_bounds-buf-end
 slice_bounds-buf-end g c =
     omega (arith, c.store.auto.buf, filling-sized (sheet_of c.args.sheet.now) c.args.filling.now c.load.ensures.1, c.load.ensures.0.in_range.counts_in.of_fields)
 
-pub slice_bounds-same-end : goal.slice_bounds-same-end
-slice_bounds-same-end g c =
+pub slice_bounds-ne-end : goal.slice_bounds-ne-end
+slice_bounds-ne-end g c =
     sym (length-take-le (length c.args.filling.now) c.store.new.buf
     (omega (arith, c.store.auto.buf, filling-sized (sheet_of c.args.sheet.now) c.args.filling.now c.load.ensures.1, c.load.ensures.0.in_range.counts_in.of_fields)))

@@ -20,7 +20,7 @@ turn s d at w i room more =
 
 pub loop-i-init : goal.loop-i-init
 loop-i-init c =
-    (omega arith, refl, paste-zero c.args.buf.now c.args.at (letter_bytes (sheet_of c.args.sheet.now) c.args.word.now))
+    (refl, paste-zero c.args.buf.now c.args.at (letter_bytes (sheet_of c.args.sheet.now) c.args.word.now))
 
 pub letter-requires : goal.letter-requires
 letter-requires c =
@@ -36,11 +36,11 @@ loop-i-preserved c =
     let at-loop-test = c.loop-i-test in
     let a = c.args in
     let l = at-loop in
-    let e = c.letter.ensures ∙ ap (letter_of (sheet_of a.sheet.now)) c.wide.ensures.0 in
-    (omega arith, simp length-set l.invariant.1, rw (l.invariant.2, e) (turn (sheet_of a.sheet.now) a.buf.now a.at a.word.now l.i (omega arith) at-loop-test.true))
+    let e = c.letter.ensures ∙ ap (letter_of (sheet_of a.sheet.now)) c.from.ensures in
+    (simp length-set l.invariant.0, rw (l.invariant.1, e) (turn (sheet_of a.sheet.now) a.buf.now a.at a.word.now l.i (omega arith) at-loop-test.true))
 
 pub shape_of-buf : goal.shape_of-buf
-shape_of-buf c = c.loop-i.invariant.1
+shape_of-buf c = c.loop-i.invariant.0
 
 pub returns : goal.returns
 returns c =
@@ -48,4 +48,4 @@ returns c =
     let w = letter_bytes (sheet_of a.sheet.now) a.word.now in
     let n = length-map a.word.now (letter_of (sheet_of a.sheet.now)) in
     let e : c.loop-i.i ≡ length w = omega arith in
-    (omega arith, c.loop-i.invariant.2 ∙ rw e (placed_paste a.buf.now w a.at))
+    (omega arith, c.loop-i.invariant.1 ∙ rw e (placed_paste a.buf.now w a.at))

@@ -1,5 +1,4 @@
 use mathlib.Core.Path.{◌≡◌}
-use Prim.Native.Nat.{◌-◌, ◌≤◌}
 use lib.ListN.{length}
 use lib.Seq.{paste}
 use Rattle.model.specs.Sheet.{sheet_of}
@@ -7,7 +6,4 @@ use Rattle.model.specs.Word.{letter_bytes}
 use Rattle.words.proofs.put_letters.Given as goal
 
 abbrev pub invariant-loop-i : goal.invariant-loop-i
-invariant-loop-i l = (l.i ≤ length l.word) × (length l.buf ≡ length l.initial.buf) × (l.buf ≡ paste l.initial.buf l.at (letter_bytes (sheet_of l.sheet) l.word) l.i)
-
-abbrev pub decreases-loop-i : goal.decreases-loop-i
-decreases-loop-i l = length l.word - l.i
+invariant-loop-i l = (length l.buf ≡ length l.initial.buf) × (l.buf ≡ paste l.initial.buf l.at (letter_bytes (sheet_of l.sheet) l.word) l.i)

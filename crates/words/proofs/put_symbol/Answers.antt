@@ -1,17 +1,15 @@
 -- `words::put_symbol` meets its contract: the letter alone, or the first places of its field. Assumes nothing.
 use mathlib.Core.Path.{◌≡◌, sym, ap, ◌∙◌}
+use mathlib.Core.List.{List}
+use Prim.Native.Nat.{ℕ, ◌-◌, ◌≤◌}
 use native.Mathlib.Omega.{arith}
 use lib.ListN.{length, take}
-use lib.Seq.{length-take-le}
 use Rattle.model.specs.Sheet.{symbol_of}
 use Rattle.model.specs.Word.{symbol_word}
 use Rattle.fields.specs.declared.Field.{Field}
-use Rattle.fields.specs.Memory.{text_of, texts_of, field, Whole}
+use Rattle.fields.specs.Memory.{text_of, texts_of, field}
 use Rattle.words.proofs.Symbols.{letter-word, field-word, whole-at}
 use Rattle.words.proofs.put_symbol.Goals as goal
-use Rattle.words.proofs.put_symbol.Lts as lts
-use Rattle.words.proofs.put_symbol.Reads as reads
-use Rattle.words.proofs.put_symbol.Tie as tie
 
 pub put-requires : goal.put-requires
 put-requires c =
@@ -28,36 +26,22 @@ returns-then-symbol-lt-FIRST_FIELD c =
     rw e at-put.ensures
 
 -- the field that the symbol names
-abbrev the_field : (c : lts.After-wide tie.the-claims reads.Pre reads.Post) → Field
-the_field c = field c.args.g c.wide.result
+is_text : (g : List Field) (x n : ℕ) → n ≡ x - 128 → 128 ≤ x → symbol_word (texts_of g) (symbol_of x) ≡ text_of (field g n)
+is_text g x n e h = field-word g x h ∙ ap (λ f. text_of (field g f)) (sym e)
 
-whole-field : (c : lts.After-wide tie.the-claims reads.Pre reads.Post) → Whole (the_field c)
-whole-field c =
-    whole-at c.args.g c.wide.result c.requires.0 (omega (arith, c.requires.1, c.wide.ensures.0))
-
-is_text : (c : lts.After-wide tie.the-claims reads.Pre reads.Post) →
-    symbol_word (texts_of c.args.g) (symbol_of c.args.symbol) ≡ text_of (the_field c)
-is_text c =
-    field-word c.args.g c.args.symbol c.if-symbol-lt-FIRST_FIELD.false ∙ ap (λ f. text_of (field c.args.g f)) (sym c.wide.ensures.0)
-
-pub slice_bounds-letters-end : goal.slice_bounds-letters-end
-slice_bounds-letters-end c =
-    omega (arith, whole-field c.before.before.before.before, c.wide-2.ensures.0)
-
-pub slice_bounds-put-end-2 : goal.slice_bounds-put-end-2
-slice_bounds-put-end-2 c =
-    sym (length-take-le c.wide-2.result (the_field c.before.before.before.before.before).letters (omega (arith, whole-field c.before.before.before.before.before, c.wide-2.ensures.0)))
+pub shared_ref_as_front-put : goal.shared_ref_as_front-put
+shared_ref_as_front-put c =
+    let w = whole-at c.args.g c.from.result c.requires.0 (omega (arith, c.requires.1)) in
+    omega (arith, w)
 
 pub put-requires-2 : goal.put-requires-2
 put-requires-2 c =
-    let e = ap length (is_text c.before.before.before.before.before) in
-    let n = ap (λ n. length (take n (the_field c.before.before.before.before.before).letters)) c.wide-2.ensures.0 in
+    let e = ap length (is_text c.args.g c.args.symbol c.from.result c.from.ensures c.if-symbol-lt-FIRST_FIELD.false) in
+    let n = ap (λ n. length (take n (field c.args.g c.from.result).letters)) c.from-2.ensures in
     omega (arith, c.requires.2)
 
 pub returns : goal.returns
 returns c =
-    let at-wide2 = c.wide-2 in
-    let at-put2 = c.put-2 in
-    let t = is_text c.before.before.before.before.before.before.before.before.before in
-    let n = ap (λ n. take n (the_field c.before.before.before.before.before.before.before.before.before).letters) at-wide2.ensures.0 in
-    rw (t, ← n) at-put2.ensures
+    let t = is_text c.args.g c.args.symbol c.from.result c.from.ensures c.if-symbol-lt-FIRST_FIELD.false in
+    let n = ap (λ n. take n (field c.args.g c.from.result).letters) c.from-2.ensures in
+    rw (t, ← n) c.put-2.ensures

@@ -12,8 +12,8 @@ returns-then-n-left c s =
     let n = c.agreeing-n in
     tail_lent a.left.now n.result ∙ ap (λ k. drop k a.left.now) (n.ensures.2 s) ∙ sym (rest-left s a.left.now a.right.now (omega (arith, n.ensures.2 s))).1
 
-pub returns : goal.returns
-returns c s =
+pub returns-else-n-left : goal.returns-else-n-left
+returns-else-n-left c s =
     let a = c.args in
     let n = c.agreeing-n in
     tail_lent a.right.now n.result ∙ ap (λ k. drop k a.right.now) (n.ensures.2 s) ∙ sym (rest-right s a.left.now a.right.now (omega (arith, n.ensures.2 s))).1

@@ -14,39 +14,39 @@ use Rattle.fields.specs.Memory.{texts_of}
 use Rattle.words.proofs.Symbols.{spelled-more, spelled-room}
 use Rattle.words.proofs.spell.Goals as goal
 
-pub loop-i-init : goal.loop-i-init
-loop-i-init c =
+pub loop-symbol-init : goal.loop-symbol-init
+loop-symbol-init c =
     let word = c.args.word.now in
-    (omega arith, subst (λ p. Written word 0 p word 0) (sym (spell-none (texts_of c.args.g))) (nothing word 0))
+    subst (λ p. Written word 0 p word 0) (sym (spell-none (texts_of c.args.g))) (nothing word 0)
 
 pub put_symbol-at-requires : goal.put_symbol-at-requires
 put_symbol-at-requires c =
-    let at-loop = c.loop-i in
-    let at-loop-test = c.loop-i-test in
+    let at-loop = c.loop-symbol in
+    let at-loop-test = c.loop-symbol-test in
     let a = c.args in
     let l = at-loop in
-    (c.requires.0, at (λ x. x < 128 + 6) a.template.now l.i 0 c.requires.1 at-loop-test.true, omega (arith, l.invariant.1, c.requires.2, spelled-room a.g a.template.now l.i at-loop-test.true))
+    (c.requires.0, at (λ x. x < 128 + 6) a.template.now l.symbol-index 0 c.requires.1 at-loop-test.true, omega (arith, l.invariant, c.requires.2, spelled-room a.g a.template.now l.symbol-index at-loop-test.true))
 
-pub loop-i-preserved : goal.loop-i-preserved
-loop-i-preserved c =
-    let at-loop = c.loop-i in
-    let at-loop-test = c.loop-i-test in
+pub loop-symbol-preserved : goal.loop-symbol-preserved
+loop-symbol-preserved c =
+    let at-loop = c.loop-symbol in
+    let at-loop-test = c.loop-symbol-test in
     let at-put-symbol = c.put_symbol-at in
     let a = c.args in
     let l = at-loop in
-    let room = spelled-room a.g a.template.now l.i at-loop-test.true in
-    let q = symbol_word (texts_of a.g) (symbol_of (get_or a.template.now l.i 0)) in
-    let next = more q at-put-symbol.new.word at-put-symbol.result l.invariant.1 at-put-symbol.ensures at-put-symbol.auto.word (omega (arith, c.requires.2)) in
-    (omega arith, subst (λ p. Written a.word.now 0 p at-put-symbol.new.word at-put-symbol.result) (sym (spelled-more a.g a.template.now l.i at-loop-test.true)) next)
+    let room = spelled-room a.g a.template.now l.symbol-index at-loop-test.true in
+    let q = symbol_word (texts_of a.g) (symbol_of (get_or a.template.now l.symbol-index 0)) in
+    let next = more q at-put-symbol.new.word at-put-symbol.result l.invariant at-put-symbol.ensures at-put-symbol.auto.word (omega (arith, c.requires.2)) in
+    subst (λ p. Written a.word.now 0 p at-put-symbol.new.word at-put-symbol.result) (sym (spelled-more a.g a.template.now l.symbol-index at-loop-test.true)) next
 
 pub shape_of-word : goal.shape_of-word
-shape_of-word c = c.loop-i.invariant.1.long
+shape_of-word c = c.loop-symbol.invariant.long
 
 pub returns : goal.returns
 returns c =
     let a = c.args in
-    let l = c.loop-i in
+    let l = c.loop-symbol in
     let n = length-map a.template.now symbol_of in
-    let e : take l.i (map symbol_of a.template.now) ≡ map symbol_of a.template.now = take_all l.i (map symbol_of a.template.now) (omega arith) in
-    let w = subst (λ t. Written a.word.now 0 (spell (texts_of a.g) t) l.word l.at) e l.invariant.1 in
+    let e : take l.symbol-index (map symbol_of a.template.now) ≡ map symbol_of a.template.now = take_all l.symbol-index (map symbol_of a.template.now) (omega arith) in
+    let w = subst (λ t. Written a.word.now 0 (spell (texts_of a.g) t) l.word l.at) e l.invariant in
     (omega (arith, w.past), w.holds)

@@ -6,18 +6,15 @@ use Rattle.inequalities.proofs.Steps.{occurrences_turn, occurrences_done}
 use Rattle.inequalities.proofs.making.occurrences.Goals as goal
 use Rattle.inequalities.proofs.making.occurrences.Goals.{then-slot-k, else-slot-k}
 
-pub slot-requires : goal.slot-requires
-slot-requires c = tt
-
 pub overflow_add-n : goal.overflow_add-n
 overflow_add-n c = omega (arith, c.requires)
 
-pub loop-i-preserved : goal.loop-i-preserved
-loop-i-preserved c =
-    let l = c.loop-i in
+pub loop-symbol-preserved : goal.loop-symbol-preserved
+loop-symbol-preserved c =
+    let l = c.loop-symbol in
     let a = c.args in
     let found = c.slot.ensures in
-    let turn = occurrences_turn a.template.now a.k l.i (omega arith) in
+    let turn = occurrences_turn a.template.now a.k l.symbol-index (omega arith) in
     elim c.if-slot-k.branch [
       | then-slot-k w ↦ let here = eq-eqb _ _ (sym found ∙ w.if-slot-k.true) in omega (arith, rw here at turn)
       | else-slot-k w ↦ let here = ne_eqb _ _ (λ e. w.if-slot-k.false (found ∙ e)) in omega (arith, rw here at turn)
@@ -25,7 +22,7 @@ loop-i-preserved c =
 
 pub returns : goal.returns
 returns c =
-    let l = c.loop-i in
+    let l = c.loop-symbol in
     let a = c.args in
-    let done = occurrences_done a.template.now a.k l.i (omega arith) in
+    let done = occurrences_done a.template.now a.k l.symbol-index (omega arith) in
     omega arith

@@ -1,20 +1,11 @@
--- `inequalities::making::positive` meets its contract: by the number's sign. Assumes nothing.
-use Rattle.inequalities.proofs.Signs.{back, narrows, above_zero, not_above_zero}
+-- `inequalities::making::positive` meets its contract. Assumes nothing.
+use mathlib.Core.Path.{ap, ◌∙◌}
+use lib.IntN.{nat_abs}
+use Rattle.inequalities.proofs.Signs.{back, greater_part}
 use Rattle.inequalities.proofs.making.positive.Goals as goal
-
-pub overflow_cast-result : goal.overflow_cast-result
-overflow_cast-result c =
-    let n = c.args.n in
-    let e = back n c.ranges.n in
-    rw e ((above_zero n (rw e at c.if-n-gt0.true)).0, narrows n c.ranges.n)
-
-pub returns-then-n-gt0 : goal.returns-then-n-gt0
-returns-then-n-gt0 c =
-    let n = c.args.n in
-    let e = back n c.ranges.n in
-    rw e (above_zero n (rw e at c.if-n-gt0.true)).1
 
 pub returns : goal.returns
 returns c =
-    let n = c.args.n in
-    not_above_zero n (rw (back n c.ranges.n) at c.if-n-gt0.false)
+    let part = c.max in
+    let size = rw (back part.result (record { sfits = part.type_inv })) at c.unsigned_abs.ensures.value in
+    size ∙ ap nat_abs (rw (back c.args.n c.ranges.n) at part.ensures.value) ∙ greater_part c.args.n

@@ -5,5 +5,5 @@ use Rattle.inequalities.proofs.making.slot.Goals as goal
 pub returns-then-symbol-lt-FIRST_FIELD : goal.returns-then-symbol-lt-FIRST_FIELD
 returns-then-symbol-lt-FIRST_FIELD c = rw (lt-ltb c.args.symbol 128 c.if-symbol-lt-FIRST_FIELD.true)
 
-pub returns : goal.returns
-returns c = rw (le-ltb c.args.symbol 128 c.if-symbol-lt-FIRST_FIELD.false)
+pub returns-else-symbol-lt-FIRST_FIELD : goal.returns-else-symbol-lt-FIRST_FIELD
+returns-else-symbol-lt-FIRST_FIELD c = rw (le-ltb c.args.symbol 128 c.if-symbol-lt-FIRST_FIELD.false)
