@@ -35,7 +35,7 @@ fn in_field(sheet: &[u8], f: usize, n: usize) -> ClauseId
     ClauseId::BlankTail(f, c)
 }
 
-// The n-th sum of the first k fields, from the least on.
+// The n-th sum of the first k fields, from the least on. The number is cast, since no `From` takes a usize to an i16.
 fn sum_at(sheet: &[u8], r: usize, k: usize, n: usize) -> i16
     requires { Admitted sheet.now × (r < length (sheet_of sheet.now).constraints) × (k ≤ length (sheet_of sheet.now).limits) × (n ≤ spread (sheet_of sheet.now) (constraint (sheet_of sheet.now) r) k) }
     ensures { result ≡ least (sheet_of sheet.now) (constraint (sheet_of sheet.now) r) k +ℤ pos n }
@@ -100,11 +100,8 @@ fn past_fields(sheet: &[u8], n: usize) -> Result<ClauseId, usize>
     requires { Admitted sheet.now }
     ensures { Sought (sheet_of sheet.now) (k_clauses (sheet_of sheet.now)) (s_clauses (sheet_of sheet.now) + total (length (sheet_of sheet.now).constraints) (constraint_count (sheet_of sheet.now))) n result }
 {
-    in_section(sheet, Section::Equations, n).or_else(|rest| in_section(
-        sheet,
-        Section::Constraints,
-        rest,
-    ))
+    let found = in_section(sheet, Section::Equations, n);
+    found.or_else(|rest| in_section(sheet, Section::Constraints, rest))
 }
 
 // The same of all clauses.

@@ -93,7 +93,7 @@ fn zero(sheet: &[u8], r: usize) -> [usize; MOST_LITERALS]
     [sum_code(sheet, r, 0, 0, Sign::Is), 0, 0, 0, 0, 0, 0, 0, 0]
 }
 
-// A sum with field k of length d added.
+// A sum with field k of length d added. The length is cast, since no `From` takes a usize to an i16.
 fn sum_with(sheet: &[u8], r: usize, k: usize, n: i16, d: usize) -> i16
     requires { Admitted sheet.now × IdIn (sheet_of sheet.now) (model.Add r k n d) }
     ensures { result ≡ n +ℤ coefficient (constraint (sheet_of sheet.now) r) k *ℤ pos d }

@@ -15,7 +15,7 @@ ghost use Rattle.shape.specs.Name.{section_of};
 
 use shape::Section;
 
-// The least product of a coefficient and a length up to n.
+// The least product of a coefficient and a length up to n. The length is cast, since no `From` takes a usize to an i16.
 fn lowest(c: i8, n: usize) -> i16
     requires { (nat_abs c ≤ 4) × (n ≤ 8) }
     ensures { result ≡ model.lowest c n }
@@ -65,9 +65,10 @@ pub fn within(sheet: &[u8], r: usize) -> usize
     let least = least(sheet, r, fields);
     let most = parts::most(sheet, r);
     if most < least {
-        return 0;
+        0
+    } else {
+        sums.min(usize::from(most.abs_diff(least)) + 1)
     }
-    sums.min(usize::from(most.abs_diff(least)) + 1)
 }
 
 // The variables T of constraint r with fewer than k fields summed.

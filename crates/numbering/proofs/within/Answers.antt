@@ -25,7 +25,7 @@ pub returns-then-most-least : goal.returns-then-most-least
 returns-then-most-least c =
     (none_within c.most-most.result c.least-least.result (record { sfits = c.most-most.type_inv }) (record { sfits = c.least-least.type_inv }) (c.spread-sums.result + 1) c.if-most-least.true ∙ the_known c.before.before, omega arith)
 
-pub returns : goal.returns
-returns c =
+pub returns-else-most-least : goal.returns-else-most-least
+returns-else-most-least c =
     let e = c.from.ensures ∙ c.abs_diff.ensures in
     (c.min.ensures ∙ some-within c.most-most.result c.least-least.result (record { sfits = c.most-most.type_inv }) (record { sfits = c.least-least.type_inv }) (c.spread-sums.result + 1) c.from.result c.if-most-least.false e ∙ the_known c.before.before.before.before.before, omega (arith, c.spread-sums.ensures))
