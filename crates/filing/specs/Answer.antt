@@ -1,14 +1,11 @@
--- What the enums of this crate say in document 01's numbers.
-use Rattle.std.specs.Prelude.{List, [], ◌∷◌, ℕ}
+-- What the answers of this crate say in document 01's numbers.
+use Rattle.std.specs.Prelude.{List, [], ◌∷◌, ℕ, Result, Ok, Err}
 use Rattle.calls.specs.Calls.{Answer, refused, finished}
 use Rattle.sheet.specs.Answer as sheet
+use Rattle.sheet.specs.declared.Refusal as sheet_refusal
 use Rattle.filing.specs.declared.ClauseCounts.{ClauseCounts}
 use Rattle.filing.specs.declared.Refusal.{Refusal}
 use Rattle.filing.specs.declared.Refusal.TheVariants.{Sheet, Room}
-use Rattle.filing.specs.declared.Counting.{Counting}
-use Rattle.filing.specs.declared.Counting.TheVariants as counting
-use Rattle.filing.specs.declared.Filing.{Filing}
-use Rattle.filing.specs.declared.Filing.TheVariants as filing
 
 -- 29 where the buffer is shorter than the file
 abbrev pub number_of : Refusal → ℕ
@@ -19,11 +16,11 @@ number_of Room = 29
 abbrev pub three_counts : ClauseCounts → List ℕ
 three_counts c = c.variables ∷ c.clauses ∷ c.bytes ∷ []
 
-abbrev pub counted : Counting → Answer
-counted (counting.Counts c) = finished (three_counts c)
-counted (counting.Refused f) = refused (sheet.number_of f)
+abbrev pub counted : Result ClauseCounts sheet_refusal.Refusal → Answer
+counted (Ok c) = finished (three_counts c)
+counted (Err f) = refused (sheet.number_of f)
 
 -- the answer is the file's length
-abbrev pub filed : Filing → Answer
-filed (filing.Length n) = finished (n ∷ [])
-filed (filing.Refused f) = refused (number_of f)
+abbrev pub filed : Result ℕ Refusal → Answer
+filed (Ok n) = finished (n ∷ [])
+filed (Err f) = refused (number_of f)

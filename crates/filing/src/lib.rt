@@ -6,6 +6,7 @@ ghost use Rattle.model.specs.Sheet.{sheet_of};
 ghost use Rattle.model.specs.Range.{Admitted};
 ghost use Rattle.calls.specs.Calls.{clause_counts, counting, filing, Writes};
 ghost use Rattle.filing.specs.Answer.{number_of, three_counts, counted, filed};
+ghost use Rattle.filing.specs.declared.Refusal.TheVariants.{Sheet};
 
 // What counting answers: the variables, the clauses, and the file's bytes.
 #[derive(Clone, Copy)]
@@ -15,34 +16,30 @@ pub struct ClauseCounts {
     pub bytes: usize,
 }
 
-// The answer of counting, which refuses only what reading refuses.
-#[derive(Clone, Copy)]
-pub enum Counting {
-    Counts(ClauseCounts),
-    Refused(sheet::Refusal),
-}
-
-// What writing the file refuses: what reading refuses, and 29.
-#[derive(Clone, Copy)]
+// What writing the file refuses: what counting refuses, and 29.
+#[derive(Clone, Copy, Debug, PartialEq, Eq)]
 pub enum Refusal {
     Sheet(sheet::Refusal),
     Room,
 }
 
-// The answer of writing the file.
-#[derive(Clone, Copy)]
-pub enum Filing {
-    Length(usize),
-    Refused(Refusal),
+impl From<sheet::Refusal> for Refusal {
+    ghost from_gives = { λ found r. r ≡ Sheet found };
+
+    fn from(found: sheet::Refusal) -> Refusal {
+        Refusal::Sheet(found)
+    }
 }
 
 // Document 01's number of a refusal.
-pub fn number(refusal: Refusal) -> u8
-    ensures { result ≡ number_of refusal }
-{
-    match refusal {
-        Refusal::Sheet(found) => sheet::number(found),
-        Refusal::Room => 29,
+impl From<Refusal> for u8 {
+    ghost from_gives = { λ refusal r. r ≡ number_of refusal };
+
+    fn from(refusal: Refusal) -> u8 {
+        match refusal {
+            Refusal::Sheet(found) => u8::from(found),
+            Refusal::Room => 29,
+        }
     }
 }
 
@@ -62,28 +59,21 @@ fn clause_counts(sheet: &[u8]) -> ClauseCounts
 }
 
 // Counts a sheet's variables, clauses and its clause file's bytes: the three counts, or the sheet's refusal. Any bytes are allowed.
-pub fn count(sheet: &[u8]) -> Counting
+pub fn count(sheet: &[u8]) -> Result<ClauseCounts, sheet::Refusal>
     ensures { counted result ≡ counting sheet.now }
 {
-    match sheet::read(sheet) {
-        sheet::Reading::Refused(refusal) => Counting::Refused(refusal),
-        sheet::Reading::Accepted(_) => Counting::Counts(clause_counts(sheet)),
-    }
+    sheet::read(sheet)?;
+    Ok(clause_counts(sheet))
 }
 
 // Writes the whole clause file into the buffer: the file's length, or the first refusal. Any bytes are allowed. Bytes after the file, and on a refusal all, are
 // as they were: whether the buffer is long enough is known before a byte is written.
-pub fn write_file(sheet: &[u8], buf: &mut [u8]) -> Filing
+pub fn write_file(sheet: &[u8], buf: &mut [u8]) -> Result<usize, Refusal>
     ensures { Writes (filing sheet.now (length buf.old)) buf.old (filed result) buf.new }
 {
-    match sheet::read(sheet) {
-        sheet::Reading::Refused(refusal) => Filing::Refused(Refusal::Sheet(refusal)),
-        sheet::Reading::Accepted(_) => {
-            let counts = clause_counts(sheet);
-            if buf.len() < counts.bytes {
-                return Filing::Refused(Refusal::Room);
-            }
-            Filing::Length(rendering::put_file(buf, sheet))
-        }
+    let counts = count(sheet)?;
+    if buf.len() < counts.bytes {
+        return Err(Refusal::Room);
     }
+    Ok(rendering::put_file(buf, sheet))
 }

@@ -56,7 +56,7 @@ fn next_code(first: usize, low: i16, c: i8, n: i16, d: usize) -> usize
     requires { Added first low c n d }
     ensures { result ≡ first + 2 * nat_abs (n +ℤ c *ℤ pos d -ℤ low) }
 {
-    first + 2 * ((n + (c as i16) * (d as i16) - low) as usize)
+    first + 2 * usize::from((n + i16::from(c) * (d as i16)).abs_diff(low))
 }
 
 // A sum of the fields before field k, for every length of it.
