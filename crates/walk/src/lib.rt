@@ -23,7 +23,7 @@ pub struct Walked {
     pub substitution: Substitution,
 }
 
-// The first cell from there on that is not blank, or the end.
+// The first cell from there on that is not blank, or the end. (A `for`, and no `position`, since it begins at an index and answers one.)
 fn skip(a: &[u8], from: usize, g: Substitution) -> usize
     requires { Cells a.now × (from ≤ length a.now) }
     ensures { Skipped g a.now from result }
@@ -121,7 +121,7 @@ fn renewed(t: Field, f: u8, c: u8, lo: u8, hi: u8) -> u8
     }
 }
 
-// Field f, which is t in an outer box, in the box from lo to hi.
+// Field f, which is t in an outer box, in the box from lo to hi. (Place by place, as fields are below: a loop would need values that it overwrites.)
 fn renew_field(t: Field, f: u8, lo: Lengths, hi: Lengths) -> Field
     requires { f < 6 }
     ensures { result ≡ renew_field f (get_or lo f 0) (get_or hi f 0) t }
