@@ -105,7 +105,15 @@ module _ (es back : List Equation) (rows : List ℕ) (count : ℕ) (lo hi : List
   abbrev try : List ℕ → Option (List Field)
   try = try_of es rows count
 
+  -- no totals are asked for
+  pub unasked : best.below ≤ t → Betters try lo hi t shortest best best
+  unasked less = stays try lo hi t shortest best (λ m c low high. absurd (omega arith))
+
   module _ (asked : t < best.below) where
+    -- nothing is left
+    pub cut : Nothing es rows count lo hi t (best.below - 1) → Betters try lo hi t shortest best best
+    cut nothing = stays try lo hi t shortest best (λ m c low high. nothing m (c, low, omega arith))
+
     module _ (left : Left) (smaller : Smaller es back rows count lo hi t (best.below - 1) left) where
       -- what succeeds is in the smaller box
       back_in : (m : List ℕ) → Within lo hi m → t ≤ sum_of m → sum_of m < best.below → (Within left.ranges.lo left.ranges.hi m → IsNone (try m)) → IsNone (try m)

@@ -3,18 +3,20 @@ use mathlib.Core.Path.{◌≡◌, refl, sym, ap, ◌∙◌}
 use mathlib.Core.Bool.{Bool, true, false}
 use mathlib.Core.List.{List}
 use mathlib.Core.Logic.{◌⊎◌, inl, inr}
-use Prim.Native.Nat.{ℕ, ◌+◌, ◌≤◌}
+use Prim.Native.Nat.{ℕ, ◌+◌, ◌<◌, ◌≤◌}
 use native.Mathlib.Omega.{arith}
+use lib.ListN.{get_or}
 use Rattle.model.proofs.Lists.{never}
 use Rattle.std.specs.Prelude.{Option, is_some, IsSome, IsNone}
 use Rattle.fields.specs.declared.Field.{Field}
+use Rattle.unification.proofs.Laws.{by_lt}
 use Rattle.inequalities.specs.Rows.{Within}
 use Rattle.bounds.specs.Bounds.{sum_of}
 use Rattle.bounds.proofs.Sums.{sum_grows}
 use Rattle.boxes.specs.declared.Best.{Best}
-use Rattle.boxes.specs.Vectors.{Box, Before, Sooner, Order, First}
+use Rattle.boxes.specs.Vectors.{Settled, Box, Before, Sooner, Order, First}
 use Rattle.boxes.specs.Boxes.{Answered, Seeks}
-use Rattle.boxes.proofs.Parts.{Parting, least, others, others-within, parts}
+use Rattle.boxes.proofs.Parts.{Parting, least, others, least_at, least_other, others_other, by_field, least-within, others-within, into_least, parts}
 
 module _ (try : List ℕ → Option (List Field)) where
   -- nothing in the class succeeds
@@ -63,9 +65,57 @@ module _ (try : List ℕ → Option (List Field)) where
         by m c v d go (inl l) = f.none m c (omega arith) (omega (arith, d.2))
         by m c v d go (inr b) = let e = b.0 in go (c, omega (arith, d.1), omega (arith, d.2)) b.1
 
-  -- A box that is parted by the length of field k.
-  module _ {lo hi : List ℕ} {k : ℕ} (p : Parting lo hi k) (t u : ℕ) where
-    -- the first part fails, and the other part decides
+  -- a box of one vector at most: any answer is the first
+  pub one_vector : (lo hi : List ℕ) (t u : ℕ) (r : Option (List Field)) → Settled lo hi 6 → First try (Box lo hi t u) (Order false) r → First try (Box lo hi t u) Before r
+  one_vector lo hi t u r s f = record {
+    hit = λ q.
+        let i = f.hit q in
+        record {
+          vector = i.vector;
+          inside = i.inside;
+          is = i.is;
+          first = λ m c o. absurd (let e = s o.at o.inside in let a = c.0 o.at o.inside in let b = i.inside.0 o.at o.inside in let l = o.less in omega arith);
+        };
+    miss = f.miss;
+  }
+
+  -- A box that is parted by the length of field k, the lengths below k being settled.
+  module _ {lo hi : List ℕ} {k : ℕ} (p : Parting lo hi k) (settled : Settled lo hi k) (t u : ℕ) where
+    pub least-settled : Settled lo (least p) (k + 1)
+    least-settled f h = by_field p (λ f. get_or lo f 0 ≡ get_or (least p) f 0) f (sym (least_at p)) (λ n. rw (least_other p f n) (settled f (omega arith)))
+
+    pub others-settled : Settled (others p) hi k
+    others-settled f h = others_other p f (λ e. omega arith) ∙ settled f h
+
+    -- what comes before a vector with the least length at k has that length too
+    before-least : (m w : List ℕ) → Within lo hi m → Within lo (least p) w → Before m w → get_or m k 0 ≡ get_or lo k 0
+    before-least m w c d o =
+        let e : get_or w k 0 ≡ get_or lo k 0 = let v = d k p.inside in let a = least_at p in omega (arith, v.0, v.1) in
+        let ge = (c k p.inside).0 in
+        let l = o.less in
+        by_lt o.at k
+        (λ j. let q = settled o.at j in let a = c o.at o.inside in let b = least-within p w d o.at o.inside in absurd (omega arith))
+        (λ j. by_lt k o.at (λ i. o.same k i ∙ e) (λ i. let q : o.at ≡ k = omega arith in let z : get_or m k 0 < get_or w k 0 = rw q at l in absurd (omega arith)))
+
+    -- the first part succeeds
+    pub least_hits : (r : Option (List Field)) → IsSome r → First try (Box lo (least p) t u) Before r → First try (Box lo hi t u) Before r
+    least_hits r ok f = record {
+      hit = λ q.
+          let i = f.hit q in
+          record {
+            vector = i.vector;
+            inside = (least-within p i.vector i.inside.0, i.inside.1, i.inside.2);
+            is = i.is;
+            first = λ m c o. i.first m (into_least p m c.0 (before-least m i.vector c.0 i.inside.0 o), c.1, c.2) o;
+          };
+      miss = λ e. never (sym e ∙ ok);
+    }
+
+    -- it fails, and there is no other
+    pub least_misses : (r : Option (List Field)) → IsNone r → get_or lo k 0 ≡ get_or hi k 0 → First try (Box lo (least p) t u) Before r → First try (Box lo hi t u) Before r
+    least_misses r e one f = nothing (Box lo hi t u) Before r e (λ m c. f.miss e m (into_least p m c.0 (let w = c.0 k p.inside in omega (arith, w.0, w.1)), c.1, c.2))
+
+    -- it fails, and the other part decides
     pub others_decide : (r q : Option (List Field)) → IsNone r → First try (Box lo (least p) t u) Before r → First try (Box (others p) hi t u) Before q → First try (Box lo hi t u) Before q
     others_decide r q e f g = record {
       hit = λ h.

@@ -19,4 +19,4 @@ returns t c =
       six_hi = omega arith;
       ranges = c.requires.0;
     } in
-    others_decide (try_of (equations q.x.now q.w.now) q.rows.now q.count) p a.t a.t c.settle-r.result c.settle.result (sym c.is_some.ensures ∙ c.if-is_some.false) c.settle-r.ensures c.settle.ensures
+    others_decide (try_of (equations q.x.now q.w.now) q.rows.now q.count) p c.requires.4 a.t a.t c.settle-r.result c.settle.result (sym c.is_some.ensures ∙ c.if-is_some.false) c.settle-r.ensures c.settle.ensures
