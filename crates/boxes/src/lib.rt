@@ -82,7 +82,7 @@ fn at_vector(p: &Problem<'_>, n: Lengths, best: Best, shortest: bool) -> Best
     }
 }
 
-// The best answer of a box with a total of t or more, if it is better than the best so far.
+// The best answer of a box with a total of t or more, if it is better than the best so far. (A recursion, as a box has two parts.)
 fn in_box(
     p: &Problem<'_>,
     b: Board,

@@ -47,7 +47,7 @@ fn nearest(
 }
 
 // The first vector of total t in a box at which an attempt succeeds, the lengths of the fields below k being settled: field by field, lengths go upwards
-// until there is an answer. Where `best` is none there is none.
+// until there is an answer. Where `best` is none there is none. (A recursion, as a box has two parts.)
 fn settle(
     p: &Problem<'_>,
     ranges: Ranges,

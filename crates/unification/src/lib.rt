@@ -24,7 +24,7 @@ fn settled(x: u8) -> u8
     }
 }
 
-// A renaming of the places of one field.
+// A renaming of the places of one field. (A `for`, and no `map` of the array, which would go through an iterator that holds it.)
 fn rename_field<F: Fn(u8) -> u8 + Copy>(t: Field, by: F) -> Field
     requires { F.IsAlwaysCallable by }
     ensures { (s : ℕ → ℕ) → Computes (F.post by) s → result ≡ map_field s t }

@@ -23,7 +23,7 @@ pub struct Walked {
     pub substitution: Substitution,
 }
 
-// The first cell from there on that is not blank, or the end.
+// The first cell from there on that is not blank, or the end. (A `for`, and no `position`, since it begins at an index and answers one.)
 fn skip(a: &[u8], from: usize, g: Substitution) -> usize
     requires { Cells a.now × (from ≤ length a.now) }
     ensures { Skipped g a.now from result }
@@ -61,47 +61,45 @@ fn waits(u: u8, v: u8) -> bool
 // From cell left0 of a and cell right0 of b: blanks are passed over (document 01's B and C); the same cell on both sides is passed whatever it holds; the
 // walk stops at an open place; a side that is used up before a letter fails (F); else what the cells hold is made the same (E) and passed (D), or fails
 // where it is two letters that differ. Where it fails, no lengths of the box make the sides the same.
+// It calls itself on the next location, a form that document 01 names.
 pub fn walk_on(a: &[u8], b: &[u8], left0: usize, right0: usize, g: Substitution) -> Option<Walked>
     requires { Cells a.now × Cells b.now × (left0 ≤ length a.now) × (right0 ≤ length b.now) }
     ensures { result ≡ walk_on a.now b.now left0 right0 g }
 {
-    let mut left = left0;
-    let mut right = right0;
-    let mut substitution = g;
-    loop {
-        left = skip(a, left, substitution);
-        right = skip(b, right, substitution);
-        if left == a.len() {
-            return may_end(b, right, substitution).then_some(Walked {
-                left,
-                right,
-                substitution,
-            });
-        }
-        if right == b.len() {
-            return may_end(a, left, substitution).then_some(Walked {
-                left,
-                right,
-                substitution,
-            });
-        }
-        let x = a[left];
-        let y = b[right];
-        let u = unification::value(substitution, x);
-        let v = unification::value(substitution, y);
-        if !alike(x, y, u, v) {
-            if waits(u, v) {
-                return Some(Walked {
-                    left,
-                    right,
-                    substitution,
-                });
-            }
-            substitution = unification::unify(substitution, u, v)?;
-        }
-        left += 1;
-        right += 1;
+    let left = skip(a, left0, g);
+    let right = skip(b, right0, g);
+    if left == a.len() {
+        return may_end(b, right, g).then_some(Walked {
+            left,
+            right,
+            substitution: g,
+        });
     }
+    if right == b.len() {
+        return may_end(a, left, g).then_some(Walked {
+            left,
+            right,
+            substitution: g,
+        });
+    }
+    let x = a[left];
+    let y = b[right];
+    let u = unification::value(g, x);
+    let v = unification::value(g, y);
+    let p = left + 1;
+    let q = right + 1;
+    if alike(x, y, u, v) {
+        return walk_on(a, b, p, q, g);
+    }
+    if waits(u, v) {
+        return Some(Walked {
+            left,
+            right,
+            substitution: g,
+        });
+    }
+    let h = unification::unify(g, u, v)?;
+    walk_on(a, b, p, q, h)
 }
 
 // What place c of field f, whose places in an outer box are t, holds in a box whose lengths of the field are from lo to hi.
@@ -121,7 +119,7 @@ fn renewed(t: Field, f: u8, c: u8, lo: u8, hi: u8) -> u8
     }
 }
 
-// Field f, which is t in an outer box, in the box from lo to hi.
+// Field f, which is t in an outer box, in the box from lo to hi. (Place by place, as fields are below: a loop would need values that it overwrites.)
 fn renew_field(t: Field, f: u8, lo: Lengths, hi: Lengths) -> Field
     requires { f < 6 }
     ensures { result ≡ renew_field f (get_or lo f 0) (get_or hi f 0) t }
