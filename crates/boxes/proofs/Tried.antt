@@ -2,6 +2,7 @@
 use mathlib.Core.Path.{◌≡◌, refl, ap₂}
 use mathlib.Core.Bool.{Bool, true, false}
 use mathlib.Core.List.{List}
+use Rattle.std.specs.Prelude.{IsSome}
 use Prim.Native.Nat.{ℕ, ◌*◌}
 use native.Mathlib.Omega.{arith}
 use lib.Dec.{leb}
@@ -38,10 +39,10 @@ module _ (es : List Equation) (rows : List ℕ) (count : ℕ) where
   -- what a success says, and what it takes
   pub record Tried (m : List ℕ) : Type 0 where
     pub rows_hold : rows_hold rows count m ≡ true
-    pub attempted : (attempt_of es m).ok ≡ true
+    pub attempted : IsSome (attempt_of es m)
     pub is : try_of es rows count m ≡ attempt_of es m
 
-  pub try_out : (m : List ℕ) → (try_of es rows count m).ok ≡ true → Tried m
+  pub try_out : (m : List ℕ) → IsSome (try_of es rows count m) → Tried m
   unfolding try_of
   try_out m e = by (rows_hold rows count m) refl
     where
@@ -49,6 +50,6 @@ module _ (es : List Equation) (rows : List ℕ) (count : ℕ) where
       by true t = record { rows_hold = t; attempted = rw t at e; is = rw t }
       by false t = never (rw t at e)
 
-  pub try_in : (m : List ℕ) → rows_hold rows count m ≡ true → (attempt_of es m).ok ≡ true → (try_of es rows count m).ok ≡ true
+  pub try_in : (m : List ℕ) → rows_hold rows count m ≡ true → IsSome (attempt_of es m) → IsSome (try_of es rows count m)
   unfolding try_of
   try_in m r e = rw r e

@@ -1,10 +1,8 @@
 -- The length vectors of six fields, their order, and the first of them at which an attempt succeeds.
-use Rattle.std.specs.Prelude.{◌≡◌, Bool, true, false, List, ◌⊎◌, ℕ, ◌<◌, ◌≤◌, get_or}
+use Rattle.std.specs.Prelude.{◌≡◌, Bool, true, false, Option, None, IsSome, IsNone, List, ◌⊎◌, ℕ, ◌<◌, ◌≤◌, get_or}
 use Rattle.model.specs.Lists.{pick}
-use Rattle.unification.specs.declared.Found.{Found}
-use Rattle.unification.specs.Names.{failed}
+use Rattle.fields.specs.declared.Field.{Field}
 use Rattle.trails.specs.Equations.{Equation}
-use Rattle.walk.specs.Reading.{start_of}
 use Rattle.trails.specs.Attempt.{attempt_of}
 use Rattle.inequalities.specs.Rows.{Within, rows_hold}
 use Rattle.bounds.specs.Bounds.{sum_of}
@@ -34,16 +32,16 @@ Order true a b = Sooner a b
 Order false a b = ⊥
 
 -- r is the answer at the first vector of C, by the order O, at which `try` succeeds; or there is none
-pub record Hit (try : List ℕ → Found) (C : List ℕ → Type 0) (O : List ℕ → List ℕ → Type 0) (r : Found) : Type 0 where
+pub record Hit (try : List ℕ → Option (List Field)) (C : List ℕ → Type 0) (O : List ℕ → List ℕ → Type 0) (r : Option (List Field)) : Type 0 where
   pub vector : List ℕ
   pub inside : C vector
   pub is : r ≡ try vector
-  pub first : (m : List ℕ) → C m → O m vector → (try m).ok ≡ false
+  pub first : (m : List ℕ) → C m → O m vector → IsNone (try m)
 
-pub record First (try : List ℕ → Found) (C : List ℕ → Type 0) (O : List ℕ → List ℕ → Type 0) (r : Found) : Type 0 where
-  pub hit : r.ok ≡ true → Hit try C O r
-  pub miss : r.ok ≡ false → (m : List ℕ) → C m → (try m).ok ≡ false
+pub record First (try : List ℕ → Option (List Field)) (C : List ℕ → Type 0) (O : List ℕ → List ℕ → Type 0) (r : Option (List Field)) : Type 0 where
+  pub hit : IsSome r → Hit try C O r
+  pub miss : IsNone r → (m : List ℕ) → C m → IsNone (try m)
 
 -- what is tried at a vector: an attempt, where the rows hold
-unfoldable pub try_of : List Equation → List ℕ → ℕ → List ℕ → Found
-try_of es rows count m = pick (rows_hold rows count m) (attempt_of es m) (failed (start_of m))
+unfoldable pub try_of : List Equation → List ℕ → ℕ → List ℕ → Option (List Field)
+try_of es rows count m = pick (rows_hold rows count m) (attempt_of es m) None

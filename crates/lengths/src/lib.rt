@@ -9,10 +9,9 @@ ghost use Rattle.boxes.specs.Vectors.{Settled, Box, Before, Sooner, Order, First
 ghost use Rattle.boxes.specs.Boxes.{Twins, Given};
 ghost use Rattle.lengths.specs.Misses.{Misses};
 
-use choice::Uses;
-use fields::{FIELDS, Lengths};
-use scan::wide;
-use unification::Found;
+use bounds::Ranges;
+use boxes::Problem;
+use fields::{FIELDS, Lengths, Substitution};
 
 // A total above that of all lengths up to hi.
 fn beyond(hi: Lengths) -> u16
@@ -22,131 +21,101 @@ fn beyond(hi: Lengths) -> u16
 }
 
 // An answer of total t in a box, where there is one.
-fn any_of(
-    x: &[u8],
-    y: &[u8],
-    w: &[u8],
-    rows: &[u16],
-    count: usize,
-    uses: Uses,
-    lo: Lengths,
-    hi: Lengths,
-    t: u16,
-) -> Found
-    requires { Given x.now y.now w.now rows.now count × Some lo hi × Twins (equations x.now w.now) (equations y.now w.now) lo hi × (t ≤ 2000) }
-    ensures { First (try_of (equations x.now w.now) rows.now count) (Box lo hi t t) (Order false) result }
+fn any_of(p: &Problem<'_>, ranges: Ranges, t: u16) -> Option<Substitution>
+    requires { Some ranges.lo ranges.hi × Twins (equations p.now.x.now p.now.w.now) (equations p.now.y.now p.now.w.now) ranges.lo ranges.hi × (t ≤ 2000) }
+    ensures { First (try_of (equations p.now.x.now p.now.w.now) p.now.rows.now p.now.count) (Box ranges.lo ranges.hi t t) (Order false) result }
 {
-    let u = t + 1;
-    boxes::seek(x, y, w, rows, count, uses, lo, hi, t, u, false).found
+    boxes::seek(p, ranges, t, t + 1, false).found
 }
 
-// An answer of total t in a box, or `best` where its text of field k has the least length. Promised is only that where this is not ok there is none.
+// An answer of total t in a box, or `best` where its text of field k has the least length. Promised is only that where there is none nothing is in the box.
 fn nearest(
-    x: &[u8],
-    y: &[u8],
-    w: &[u8],
-    rows: &[u16],
-    count: usize,
-    uses: Uses,
-    lo: Lengths,
-    hi: Lengths,
+    p: &Problem<'_>,
+    ranges: Ranges,
     t: u16,
-    best: Found,
+    best: Substitution,
     k: usize,
-) -> Found
-    requires { Given x.now y.now w.now rows.now count × Some lo hi × Twins (equations x.now w.now) (equations y.now w.now) lo hi × (t ≤ 2000) × (best.ok ≡ true) × (k < 6) }
-    ensures { Misses (try_of (equations x.now w.now) rows.now count) (Box lo hi t t) result }
+) -> Option<Substitution>
+    requires { Some ranges.lo ranges.hi × Twins (equations p.now.x.now p.now.w.now) (equations p.now.y.now p.now.w.now) ranges.lo ranges.hi × (t ≤ 2000) × (k < 6) }
+    ensures { Misses (try_of (equations p.now.x.now p.now.w.now) p.now.rows.now p.now.count) (Box ranges.lo ranges.hi t t) result }
 {
-    let g = best.substitution;
-    let v = g[k];
-    if v.len == lo[k] {
-        return best;
+    if best[k].len == ranges.lo[k] {
+        Some(best)
+    } else {
+        any_of(p, ranges, t)
     }
-    any_of(x, y, w, rows, count, uses, lo, hi, t)
 }
 
 // The first vector of total t in a box at which an attempt succeeds, the lengths of the fields below k being settled: field by field, lengths go upwards
-// until there is an answer. Where `best` is not ok there is none.
+// until there is an answer. Where `best` is none there is none.
 fn settle(
-    x: &[u8],
-    y: &[u8],
-    w: &[u8],
-    rows: &[u16],
-    count: usize,
-    uses: Uses,
-    lo: Lengths,
-    hi: Lengths,
+    p: &Problem<'_>,
+    ranges: Ranges,
     t: u16,
-    best: Found,
+    best: Option<Substitution>,
     k: usize,
-) -> Found
-    requires { Given x.now y.now w.now rows.now count × Some lo hi × Twins (equations x.now w.now) (equations y.now w.now) lo hi × (t ≤ 2000) × (k ≤ 6) × Settled lo hi k × Misses (try_of (equations x.now w.now) rows.now count) (Box lo hi t t) best }
-    ensures { First (try_of (equations x.now w.now) rows.now count) (Box lo hi t t) Before result }
+) -> Option<Substitution>
+    requires { Some ranges.lo ranges.hi × Twins (equations p.now.x.now p.now.w.now) (equations p.now.y.now p.now.w.now) ranges.lo ranges.hi × (t ≤ 2000) × (k ≤ 6) × Settled ranges.lo ranges.hi k × Misses (try_of (equations p.now.x.now p.now.w.now) p.now.rows.now p.now.count) (Box ranges.lo ranges.hi t t) best }
+    ensures { First (try_of (equations p.now.x.now p.now.w.now) p.now.rows.now p.now.count) (Box ranges.lo ranges.hi t t) Before result }
 {
-    if !best.ok {
-        return best;
-    }
+    let found = best?;
     if k == FIELDS {
-        return any_of(x, y, w, rows, count, uses, lo, hi, t);
+        return any_of(p, ranges, t);
     }
-    let known = boxes::six(lo);
-    let known_too = boxes::six(hi);
+    let lo = ranges.lo;
+    let hi = ranges.hi;
     let mut least = hi;
     least[k] = lo[k];
-    let some = nearest(x, y, w, rows, count, uses, lo, least, t, best, k);
-    let r = settle(x, y, w, rows, count, uses, lo, least, t, some, k + 1);
-    if r.ok {
+    let shortest = Ranges { lo, hi: least };
+    let some = nearest(p, shortest, t, found, k);
+    let r = settle(p, shortest, t, some, k + 1);
+    if r.is_some() {
         return r;
     }
-    if wide(lo[k]) == wide(hi[k]) {
-        return r;
+    if lo[k] == hi[k] {
+        return None;
     }
     let mut others = lo;
     others[k] = lo[k] + 1;
-    settle(x, y, w, rows, count, uses, others, hi, t, best, k)
+    settle(p, Ranges { lo: others, hi }, t, best, k)
 }
 
 // The first one by total, then by the shorter field 0, field 1 and so on.
-fn least(
-    x: &[u8],
-    y: &[u8],
-    w: &[u8],
-    rows: &[u16],
-    count: usize,
-    uses: Uses,
-    lo: Lengths,
-    hi: Lengths,
-) -> Found
-    requires { Given x.now y.now w.now rows.now count × Some lo hi × Twins (equations x.now w.now) (equations y.now w.now) lo hi }
-    ensures { First (try_of (equations x.now w.now) rows.now count) (Within lo hi) Sooner result }
+fn least(p: &Problem<'_>, ranges: Ranges) -> Option<Substitution>
+    requires { Some ranges.lo ranges.hi × Twins (equations p.now.x.now p.now.w.now) (equations p.now.y.now p.now.w.now) ranges.lo ranges.hi }
+    ensures { First (try_of (equations p.now.x.now p.now.w.now) p.now.rows.now p.now.count) (Within ranges.lo ranges.hi) Sooner result }
 {
-    let best = boxes::seek(x, y, w, rows, count, uses, lo, hi, 0, beyond(hi), true);
-    let found = best.found;
-    if !found.ok {
-        return found;
-    }
-    settle(x, y, w, rows, count, uses, lo, hi, best.below, found, 0)
+    let best = boxes::seek(p, ranges, 0, beyond(ranges.hi), true);
+    let found = best.found?;
+    settle(p, ranges, best.below, Some(found), 0)
 }
 
 // The first vector from `lo` to `hi` at which the rows hold and an attempt succeeds: x and w are the equations, as in `trails::attempt`, y the cells of the equations
 // reversed, and rows the inequalities, as many as `count`. It is the first by total, then by the shorter field 0 and so on, if the
-// first is asked for (`shortest`); else any one. Not ok where there is none.
+// first is asked for (`shortest`); else any one. None where there is none.
 pub fn first(
     x: &[u8],
     y: &[u8],
     w: &[u8],
     rows: &[u16],
     count: usize,
-    lo: Lengths,
-    hi: Lengths,
+    ranges: Ranges,
     shortest: bool,
-) -> Found
-    requires { Given x.now y.now w.now rows.now count × Some lo hi × Twins (equations x.now w.now) (equations y.now w.now) lo hi }
-    ensures { First (try_of (equations x.now w.now) rows.now count) (Within lo hi) (Order shortest) result }
+) -> Option<Substitution>
+    requires { Given x.now y.now w.now rows.now count × Some ranges.lo ranges.hi × Twins (equations x.now w.now) (equations y.now w.now) ranges.lo ranges.hi }
+    ensures { First (try_of (equations x.now w.now) rows.now count) (Within ranges.lo ranges.hi) (Order shortest) result }
 {
     let uses = choice::uses(x, w);
+    let p = Problem {
+        x,
+        y,
+        w,
+        rows,
+        count,
+        uses,
+    };
     if shortest {
-        return least(x, y, w, rows, count, uses, lo, hi);
+        return least(&p, ranges);
     }
-    boxes::seek(x, y, w, rows, count, uses, lo, hi, 0, beyond(hi), false).found
+    boxes::seek(&p, ranges, 0, beyond(ranges.hi), false).found
 }

@@ -4,4 +4,4 @@ use Rattle.bounds.specs.Bounds.{sum_of}
 use Rattle.boxes.proofs.+in_box.Given as goal
 
 abbrev pub decreases-in_box : goal.decreases-in_box
-decreases-in_box l = sum_of l.hi - sum_of l.lo
+decreases-in_box l = sum_of l.ranges.hi - sum_of l.ranges.lo

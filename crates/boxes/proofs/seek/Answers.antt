@@ -10,20 +10,19 @@ use Rattle.boxes.proofs.seek.Goals as goal
 
 pub in_box-requires : goal.in_box-requires
 in_box-requires c =
-    let board = c.before.before in
-    let a = board.args in
-    let one = few-equations a.x.now a.w.now in
-    let two = few-equations a.y.now a.w.now in (
-      board.requires.0,
-      board.requires.1,
-      board.requires.2,
-      subst (Watches (equations a.x.now a.w.now) (equations a.y.now a.w.now) a.lo a.hi) (sym board.open_board.ensures)
-          (open_watches (equations a.x.now a.w.now) (equations a.y.now a.w.now) a.lo a.hi (omega arith) (omega arith)),
+    let a = c.args in
+    let p = a.p.now in
+    let few = p.given.few in
+    let one = few-equations p.x.now p.w.now in
+    let two = few-equations p.y.now p.w.now in (
+      c.requires.0,
+      c.requires.1,
+      subst (Watches (equations p.x.now p.w.now) (equations p.y.now p.w.now) a.ranges.lo a.ranges.hi) (sym c.open_board-board.ensures)
+          (open_watches (equations p.x.now p.w.now) (equations p.y.now p.w.now) a.ranges.lo a.ranges.hi (omega arith) (omega arith)),
     )
 
 pub returns : goal.returns
 returns c =
-    let searched = c.before.before in
-    let a = searched.args in
-    begun (try_of (equations a.x.now a.w.now) a.rows.now a.count) a.lo a.hi a.t a.u a.shortest searched.none_yet.result searched.in_box.result.best
-    searched.none_yet.ensures.0 searched.none_yet.ensures.1 searched.in_box.ensures
+    let a = c.args in
+    let p = a.p.now in
+    begun (try_of (equations p.x.now p.w.now) p.rows.now p.count) a.ranges.lo a.ranges.hi a.t a.u a.shortest c.in_box.result.best c.in_box.ensures

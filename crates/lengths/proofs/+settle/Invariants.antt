@@ -4,4 +4,4 @@ use lib.ListN.{get_or}
 use Rattle.lengths.proofs.+settle.Given as goal
 
 abbrev pub decreases-settle : goal.decreases-settle
-decreases-settle l = (6 - l.k) * 1024 + (256 - get_or l.lo l.k 0)
+decreases-settle l = (6 - l.k) * 1024 + (256 - get_or l.ranges.lo l.k 0)
