@@ -1,29 +1,37 @@
 -- What a callee's answer says, once it is known. Assumes nothing.
-use mathlib.Core.Path.{◌≡◌, ap, subst, ◌∙◌}
+use mathlib.Core.Path.{◌≡◌, sym, ap, subst, ◌∙◌}
 use mathlib.Core.List.{List}
 use Prim.Native.Nat.{ℕ, ◌≤◌}
 use native.Mathlib.Nat.{add-zero}
 use lib.ListN.{length, get_or, drop}
 use lib.Seq.{get_or-drop}
+use Rattle.std.specs.Prelude.{Option, Some, None, Result, Ok, Err}
+use Rattle.std.specs.Result.{result_ok}
 use Rattle.model.specs.Sheet.{Step, got, fault, rest}
-use Rattle.book_read.specs.Walk.{Came, Landed}
-use Rattle.book_read.specs.declared.Walk.{Walk}
-use Rattle.book_read.specs.declared.Walk.TheVariants.{At, Stopped}
+use Rattle.rows.specs.declared.Fault.{Fault}
+use Rattle.rows.specs.Progress.{number_of, left, HasLanded}
+use Rattle.book_read.specs.Walk.{Came}
 
-module _ {A : Type 0} (b : List ℕ) (s : Step A) {r : Walk} (h : Came b s r) where
-  pub came_at : {e : ℕ} → r ≡ At e → (rest s ≡ got tt (drop e b)) × (e ≤ length b)
-  came_at t = subst (Came b s) t h
+-- a row's answer, whatever its fault
+abbrev Passed : {A : Type 0} → List ℕ → Step A → ℕ → Option ℕ → Type 0
+Passed b s n (Some e) = (rest s ≡ got tt (drop e b)) × (e ≡ n) × (n ≤ length b)
+Passed b s n None = (m : ℕ) × (rest s ≡ fault m)
 
-  pub came_stopped : r ≡ Stopped → (n : ℕ) × (rest s ≡ fault n)
-  came_stopped t = subst (Came b s) t h
+passed : {A : Type 0} (b : List ℕ) (s : Step A) (n : ℕ) (r : Result ℕ Fault) → left b r ≡ rest s → HasLanded b n r → Passed b s n (result_ok r)
+passed b s n (Ok e) h l = (sym h, l.0, l.1)
+passed b s n (Err f) h l = (number_of f, sym h)
 
-pub landed_at : (b : List ℕ) (n : ℕ) {r : Walk} {e : ℕ} → Landed b n r → r ≡ At e → (e ≡ n) × (n ≤ length b)
-landed_at b n h t = subst (Landed b n) t h
+module _ {A : Type 0} (b : List ℕ) (s : Step A) (n : ℕ) (r : Result ℕ Fault) (o : Option ℕ) (h : left b r ≡ rest s) (l : HasLanded b n r) (is : o ≡ result_ok r) where
+  pub row_read : (e : ℕ) → o ≡ Some e → (rest s ≡ got tt (drop e b)) × (e ≡ n) × (n ≤ length b)
+  row_read e q = subst (Passed b s n) (sym is ∙ q) (passed b s n r h l)
+
+  pub row_stops : o ≡ None → (m : ℕ) × (rest s ≡ fault m)
+  row_stops q = subst (Passed b s n) (sym is ∙ q) (passed b s n r h l)
 
 -- the same walk in other words
-pub came_same : {A B : Type 0} (b : List ℕ) (s : Step A) (t : Step B) (r : Walk) → rest s ≡ rest t → Came b s r → Came b t r
-came_same b s t (At e) q h = (rw (← q) h.0, h.1)
-came_same b s t Stopped q h = (h.0, rw (← q) h.1)
+pub came_same : {A B : Type 0} (b : List ℕ) (s : Step A) (t : Step B) (r : Option ℕ) → rest s ≡ rest t → Came b s r → Came b t r
+came_same b s t (Some e) q h = (rw (← q) h.0, h.1)
+came_same b s t None q h = (h.0, rw (← q) h.1)
 
 -- the first byte that is left
 pub first-left : (b : List ℕ) (k : ℕ) → get_or (drop k b) 0 0 ≡ get_or b k 0

@@ -5,47 +5,37 @@ ghost use Rattle.std.specs.Prelude.{◌≡◌, ◌+◌, ◌≤◌, length, drop}
 ghost use Rattle.model.specs.Sheet.{times};
 ghost use Rattle.book.specs.Book.{a_template, body, some_symbols, some_templates};
 ghost use Rattle.book.specs.Book as model;
-ghost use Rattle.book_read.specs.Walk.{Came, Landed, number_of, Reads};
+ghost use Rattle.book_read.specs.Walk.{Came, Counted, number_of, Reads};
 
-use rows::{Progress, Role, row};
-use scan::{VERSION_HIGH, VERSION_LOW, WIDEST, in_range, starts_with, stretch, wide};
+use rows::{Role, row};
+use scan::{VERSION_HIGH, VERSION_LOW, WIDEST};
 use sections::width_of;
 
-// How far the walk came: to this offset, or not past a fault.
-#[derive(Clone, Copy)]
-pub enum Walk {
-    At(usize),
-    Stopped,
-}
-
 // What reading refuses a book for: 40 and 41.
-#[derive(Clone, Copy)]
+#[derive(Clone, Copy, Debug, PartialEq, Eq)]
 pub enum Refusal {
     Mark,
     Book,
 }
 
-// The answer of reading.
-#[derive(Clone, Copy)]
-pub enum Reading {
-    Accepted,
-    Refused(Refusal),
-}
-
 // Document 02's number of a refusal.
-pub fn number(refusal: Refusal) -> u8
-    ensures { result ≡ number_of refusal }
-{
-    match refusal {
-        Refusal::Mark => 40,
-        Refusal::Book => 41,
+impl From<Refusal> for u8 {
+    ghost from_gives = { λ e r. r ≡ number_of e };
+
+    fn from(refusal: Refusal) -> u8 {
+        match refusal {
+            Refusal::Mark => 40,
+            Refusal::Book => 41,
+        }
     }
 }
 
-// The mark's and the version's bytes, and the ranges of the counts.
+// The mark's and the version's bytes, where the letter count stands, and the ranges of the counts.
 const OPENING: usize = 5;
 
-const VERSION: usize = 1;
+const LETTER_COUNT: usize = 5;
+
+const VERSION: u16 = 1;
 
 const MOST_LETTERS: u8 = 8;
 
@@ -55,138 +45,87 @@ const MOST_FIELDS: u8 = 3;
 
 const MOST_SYMBOLS: u8 = 12;
 
-// A count at an offset: one byte from the one number to the other.
-fn count(book: &[u8], at: usize, low: u8, high: u8) -> Walk
-    requires { at ≤ length book.now }
-    ensures came { Came book.now (model.count low high (drop at book.now)) result }
-    ensures landed { Landed book.now (at + 1) result }
+// The count at an offset, if there is one from the one number to the other. Each walk below gives the offset that it came to, if it met no fault.
+fn count(book: &[u8], at: usize, low: u8, high: u8) -> Option<u8>
+    ensures { Counted book.now (model.count low high (drop at book.now)) at result }
 {
-    if book.len() <= at {
-        return Walk::Stopped;
-    }
-    if !in_range(low, high, book[at]) {
-        return Walk::Stopped;
-    }
-    Walk::At(at + 1)
+    let n = *book.get(at)?;
+    (low..=high).contains(&n).then_some(n)
 }
 
 // A symbol count at an offset and so many symbols, of a template with these limits; then its width.
-fn symbols(book: &[u8], letters: u8, fields: u8, limits: &[u8], at: usize) -> Walk
+fn symbols(book: &[u8], letters: u8, fields: u8, limits: &[u8], at: usize) -> Option<usize>
     requires { (length limits.now ≡ fields) × (at ≤ length book.now) }
     ensures { Came book.now (some_symbols letters limits.now (drop at book.now)) result }
 {
-    match count(book, at, 0, MOST_SYMBOLS) {
-        Walk::Stopped => Walk::Stopped,
-        Walk::At(a) => {
-            let n = wide(book[at]);
-            match row(book, Role::Symbol(letters, fields), a, n) {
-                Progress::Stopped(_) => Walk::Stopped,
-                Progress::At(e) => {
-                    if WIDEST < width_of(limits, stretch(book, a, n)) {
-                        return Walk::Stopped;
-                    }
-                    Walk::At(e)
-                }
-            }
-        }
+    let n = usize::from(count(book, at, 0, MOST_SYMBOLS)?);
+    let end = row(book, Role::Symbol(letters, fields), at + 1, n).ok()?;
+    if WIDEST < width_of(limits, &book[at + 1..end]) {
+        return None;
     }
+    Some(end)
 }
 
 // A template at an offset: a field count and so many limits, then its symbols.
-fn template(book: &[u8], letters: u8, at: usize) -> Walk
+fn template(book: &[u8], letters: u8, at: usize) -> Option<usize>
     requires { at ≤ length book.now }
     ensures { Came book.now (a_template letters (drop at book.now)) result }
 {
-    match count(book, at, 0, MOST_FIELDS) {
-        Walk::Stopped => Walk::Stopped,
-        Walk::At(a) => {
-            let fields = book[at];
-            match row(book, Role::Limit, a, wide(fields)) {
-                Progress::Stopped(_) => Walk::Stopped,
-                Progress::At(e) => {
-                    symbols(book, letters, fields, stretch(book, a, wide(fields)), e)
-                }
-            }
-        }
-    }
+    let fields = count(book, at, 0, MOST_FIELDS)?;
+    let end = row(book, Role::Limit, at + 1, usize::from(fields)).ok()?;
+    symbols(book, letters, fields, &book[at + 1..end], end)
 }
 
 // n templates, one after another.
-fn templates(book: &[u8], letters: u8, start: usize, n: usize) -> Walk
+fn templates(book: &[u8], letters: u8, start: usize, n: usize) -> Option<usize>
     requires { start ≤ length book.now }
     ensures { Came book.now (times n (a_template letters) (drop start book.now)) result }
 {
     let mut at = start;
-    let mut i: usize = 0;
-    while i < n {
-        match template(book, letters, at) {
-            Walk::Stopped => {
-                return Walk::Stopped;
-            }
-            Walk::At(e) => {
-                at = e;
-            }
-        }
-        i += 1;
+    for _ in 0..n {
+        at = template(book, letters, at)?;
     }
-    Walk::At(at)
+    Some(at)
 }
 
 // The template count at an offset, and the templates.
-fn after_letters(book: &[u8], letters: u8, at: usize) -> Walk
+fn after_letters(book: &[u8], letters: u8, at: usize) -> Option<usize>
     requires { at ≤ length book.now }
     ensures { Came book.now (some_templates letters (drop at book.now)) result }
 {
-    match count(book, at, 1, MOST_TEMPLATES) {
-        Walk::Stopped => Walk::Stopped,
-        Walk::At(a) => templates(book, letters, a, wide(book[at])),
-    }
+    let n = count(book, at, 1, MOST_TEMPLATES)?;
+    templates(book, letters, at + 1, usize::from(n))
 }
 
 // The whole walk, from the letter count on.
-fn walked(book: &[u8]) -> Walk
+fn walked(book: &[u8]) -> Option<usize>
     requires { 5 ≤ length book.now }
     ensures { Came book.now (body (drop 5 book.now)) result }
 {
-    match count(book, OPENING, 1, MOST_LETTERS) {
-        Walk::Stopped => Walk::Stopped,
-        Walk::At(a) => {
-            let letters = book[OPENING];
-            match row(book, Role::Letter, a, wide(letters)) {
-                Progress::Stopped(_) => Walk::Stopped,
-                Progress::At(e) => after_letters(book, letters, e),
-            }
-        }
-    }
+    let letters = count(book, LETTER_COUNT, 1, MOST_LETTERS)?;
+    let end = row(book, Role::Letter, LETTER_COUNT + 1, usize::from(letters)).ok()?;
+    after_letters(book, letters, end)
 }
 
 // Whether a file has this mark, and version 1.
 pub fn opens(file: &[u8], mark: &[u8]) -> bool
     ensures { result ≡ model.opens mark.now file.now }
 {
-    if file.len() < OPENING {
-        return false;
-    }
-    if !starts_with(file, mark) {
-        return false;
-    }
-    wide(file[VERSION_HIGH]) * 256 + wide(file[VERSION_LOW]) == VERSION
+    file.len() >= OPENING
+        && file.starts_with(mark)
+        && u16::from_be_bytes([file[VERSION_HIGH], file[VERSION_LOW]]) == VERSION
 }
 
 // Reads a book: accepted, or the first refusal in document 02's order. Any bytes are allowed.
-pub fn read(book: &[u8]) -> Reading
+pub fn read(book: &[u8]) -> Result<(), Refusal>
     ensures { Reads book.now result }
 {
     if !opens(book, b"TPB") {
-        return Reading::Refused(Refusal::Mark);
+        return Err(Refusal::Mark);
     }
-    match walked(book) {
-        Walk::Stopped => Reading::Refused(Refusal::Book),
-        Walk::At(e) => {
-            if e < book.len() {
-                return Reading::Refused(Refusal::Book);
-            }
-            Reading::Accepted
-        }
+    let end = walked(book).ok_or(Refusal::Book)?;
+    if end < book.len() {
+        return Err(Refusal::Book);
     }
+    Ok(())
 }

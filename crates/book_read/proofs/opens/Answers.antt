@@ -1,20 +1,33 @@
 -- `book_read::opens` meets its contract: each return by the tests that led there. Assumes nothing.
-use mathlib.Core.Path.{sym, ◌∙◌}
+use mathlib.Core.Path.{◌≡◌, sym, ◌∙◌}
+use mathlib.Core.Bool.{true, false}
 use lib.ListN.{length}
-use borrow.Author.Tests.{le-leb, lt-leb, not-true, not-false}
+use borrow.Author.Tests.{le-leb, lt-leb}
+use Rattle.scan.proofs.Words.{starts-slices}
 use Rattle.book.proofs.Opening.{opens-short, opens_unmarked, opens_version}
+use Rattle.book_read.proofs.opens.Goals.{then-file-ge-OPENING, else-file-ge-OPENING}
 use Rattle.book_read.proofs.opens.Goals as goal
 
-pub returns-then-file-lt-OPENING : goal.returns-then-file-lt-OPENING
-returns-then-file-lt-OPENING c = let a = c.args in sym (opens-short a.mark.now a.file.now (lt-leb 5 (length a.file.now) c.if-file-lt-OPENING.true))
+apart : {A : Type 0} → false ≡ true → A
+apart e = cc
 
-pub returns-then-not-starts_with : goal.returns-then-not-starts_with
-returns-then-not-starts_with c =
-    let a = c.args in
-    sym (opens_unmarked a.mark.now a.file.now (le-leb 5 (length a.file.now) c.if-file-lt-OPENING.false) (sym c.starts_with.ensures ∙ not-true _ c.if-not-starts_with.true-raw))
+pub returns-then-starts_with : goal.returns-then-starts_with
+returns-then-starts_with c =
+    let m = c.args.mark.now in
+    let b = c.args.file.now in
+    elim c.if-file-ge-OPENING.branch [
+      | then-file-ge-OPENING w ↦
+          rw c.from_be_bytes.ensures
+          (sym (opens_version m b (le-leb 5 (length b) w.if-file-ge-OPENING.true) (sym (starts-slices m b) ∙ sym w.starts_with.ensures.value ∙ sym w.value-is ∙ c.if-starts_with.true)))
+      | else-file-ge-OPENING w ↦ apart (sym (lt-leb 5 (length b) w.if-file-ge-OPENING.false) ∙ sym w.value-is ∙ c.if-starts_with.true)
+    ]
 
-pub returns : goal.returns
-returns c =
-    let a = c.args in
-    rw (c.wide.ensures.0, c.wide-2.ensures.0)
-    (sym (opens_version a.mark.now a.file.now (le-leb 5 (length a.file.now) c.if-file-lt-OPENING.false) (sym c.starts_with.ensures ∙ not-false _ c.if-not-starts_with.false-raw)))
+pub returns-else-starts_with : goal.returns-else-starts_with
+returns-else-starts_with c =
+    let m = c.args.mark.now in
+    let b = c.args.file.now in
+    c.if-starts_with.false ∙ sym (elim c.if-file-ge-OPENING.branch [
+      | then-file-ge-OPENING w ↦
+          opens_unmarked m b (le-leb 5 (length b) w.if-file-ge-OPENING.true) (sym (starts-slices m b) ∙ sym w.starts_with.ensures.value ∙ sym w.value-is ∙ c.if-starts_with.false)
+      | else-file-ge-OPENING w ↦ opens-short m b (lt-leb 5 (length b) w.if-file-ge-OPENING.false)
+    ])

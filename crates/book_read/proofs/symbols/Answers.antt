@@ -1,110 +1,61 @@
 -- `book_read::symbols` meets its contract: the count, the row of symbols, the width. Assumes nothing.
 use mathlib.Core.Path.{◌≡◌, sym, ap, ◌∙◌}
 use mathlib.Core.Bool.{Bool, true, false}
-use mathlib.Core.List.{map}
-use Prim.Native.Nat.{◌+◌, ◌≤◌}
+use mathlib.Core.List.{List, map}
+use Prim.Native.Nat.{ℕ, ◌+◌, ◌-◌}
 use native.Mathlib.Omega.{arith}
 use lib.Dec.{leb}
-use lib.ListN.{length, get_or, take, drop, length-take}
+use lib.ListN.{get_or, take, drop}
 use borrow.Author.Tests.{le-leb, lt-leb}
-use Rattle.model.specs.Sheet.{got, rest, template_byte, row, symbol_of, width}
-use Rattle.book.specs.Book.{count}
+use Rattle.model.specs.Sheet.{template_byte, row, symbol_of, width}
 use Rattle.book.proofs.Rests.{symbols-none, symbols_stop, symbols-wide, symbols-left}
-use Rattle.sections.proofs.Walks.{at_told, fault-told, landed-told}
-use Rattle.rows.specs.Progress.{number_of}
-use Rattle.book_read.proofs.Walks.{came_at, came_stopped, landed_at, first-left}
+use Rattle.book_read.proofs.Walks.{row_read, row_stops, first-left}
 use Rattle.book_read.proofs.symbols.Goals as goal
-use Rattle.book_read.proofs.symbols.Lts as lts
-use Rattle.book_read.proofs.symbols.Reads as reads
-use Rattle.book_read.proofs.symbols.Tie as tie
 
--- the count is read
-counted : (c : lts.Past-After-known_told tie.the-claims reads.Pre reads.Post tie.handed_clauses) →
+-- the width of the n symbols from an offset on, which end at another
+measured : (limits b : List ℕ) (k n e w : ℕ) (t : Bool) → e ≡ k + n → w ≡ width limits (map symbol_of (take (e - k) (drop k b))) → leb w 24 ≡ t → leb (width limits (map symbol_of (take n (drop k b)))) 24 ≡ t
+measured limits b k n e w t at is h =
+    let size : n ≡ e - k = omega arith in
+    ap (λ m. leb (width limits (map symbol_of (take m (drop k b)))) 24) size ∙ ap (λ m. leb m 24) (sym is) ∙ h
+
+pub returns-in_err-count : goal.returns-in_err-count
+returns-in_err-count c =
     let s = c.args in
-    (rest (count 0 12 (drop s.at s.book.now)) ≡ got tt (drop c.in-At.a s.book.now)) × (c.in-At.a ≡ s.at + 1) × (s.at + 1 ≤ length s.book.now)
-counted c =
-    let s = c.args in
-    let b = s.book.now in
-    let l = landed_at b _ c.count.ensures.landed c.in-At.is in
-    ((came_at b (count 0 12 (drop s.at b)) c.count.ensures.came c.in-At.is).0, l.0, l.1)
+    let n = c.in_err-count.ensures in
+    rw c.from_residual.ensures (n.0, symbols-none s.letters s.fields s.limits.now (drop s.at s.book.now) c.requires.0 n.1)
 
-pub bounds-book-at : goal.bounds-book-at
-bounds-book-at c = omega (arith, counted c.before.before)
-
-pub row-requires : goal.row-requires
-row-requires c = omega (arith, counted c.before.before.before)
-
--- the symbols are read
-symbol_count : (c : lts.After-wide tie.the-claims reads.Pre reads.Post tie.handed_clauses) → c.wide-n.result ≡ get_or (drop c.args.at c.args.book.now) 0 0
-symbol_count c =
-    let s = c.args in
-    c.wide-n.ensures.0 ∙ sym (first-left s.book.now s.at)
-
-row_read : (c : lts.Past-After-known_told2 tie.the-claims reads.Pre reads.Post tie.handed_clauses) →
-    let s = c.args in
-    rest (row (template_byte s.letters s.fields) 0 c.wide-n.result (drop c.in-At.a s.book.now)) ≡ got tt (drop c.in-At-row.e s.book.now)
-row_read c =
+pub returns-in_err-end : goal.returns-in_err-end
+returns-in_err-end c =
     let s = c.args in
     let b = s.book.now in
-    at_told b (row (template_byte s.letters s.fields) 0 c.wide-n.result (drop c.in-At.a b)) c.row.ensures.result_value c.in-At-row.is
-
-row-end : (c : lts.Past-After-known_told2 tie.the-claims reads.Pre reads.Post tie.handed_clauses) →
-    let s = c.args in
-    (c.in-At-row.e ≡ c.in-At.a + c.wide-n.result) × (c.in-At.a + c.wide-n.result ≤ length s.book.now)
-row-end c = landed-told c.args.book.now _ c.row.ensures.landed c.in-At-row.is
-
-pub stretch-requires : goal.stretch-requires
-stretch-requires c = omega (arith, row-end c.before)
-
-pub width_of-requires : goal.width_of-requires
-width_of-requires c =
-    let b = c.args.book.now in
-    let n = c.wide-n in
-    let l = ap length c.stretch.ensures ∙ length-take n.result (drop c.in-At.a b) in
-    omega (arith, n.ensures.1)
-
--- the width of the symbols that were read
-abbrev wideness : lts.After-width_of tie.the-claims reads.Pre reads.Post tie.handed_clauses → Bool
-wideness c =
-    let s = c.args in
-    leb (width s.limits.now (map symbol_of (take c.wide-n.result (drop c.in-At.a s.book.now)))) 24
-
-measured : (c : lts.After-width_of tie.the-claims reads.Pre reads.Post tie.handed_clauses) (t : Bool) → leb c.width_of.result 24 ≡ t → wideness c ≡ t
-measured c t e =
-    let s = c.args in
-    ap (λ n. leb n 24) (sym (c.width_of.ensures ∙ ap (λ xs. width s.limits.now (map symbol_of xs)) c.stretch.ensures)) ∙ e
+    let n = c.from-n.result in
+    let k = c.in_ok-count.ensures in
+    let is : n ≡ get_or (drop s.at b) 0 0 = c.from-n.ensures ∙ k.2 ∙ sym (first-left b s.at) in
+    let r = row_stops b (row (template_byte s.letters s.fields) 0 n (drop (s.at + 1) b)) (s.at + 1 + n) c.row.result c.ok.result c.row.ensures.result_value c.row.ensures.landed c.ok.ensures.value c.in_err-end.was in
+    rw c.from_residual-in_err-end.ensures (r.0, symbols_stop s.letters s.fields s.limits.now (drop s.at b) c.requires.0 n (drop (s.at + 1) b) is k.0 r.1)
 
 pub returns-then-width_of-gt-WIDEST : goal.returns-then-width_of-gt-WIDEST
 returns-then-width_of-gt-WIDEST c =
-    let b = c.args.book.now in
-    let ys = drop c.in-At.a b in (
+    let s = c.args in
+    let b = s.book.now in
+    let n = c.from-n.result in
+    let k = c.in_ok-count.ensures in
+    let is : n ≡ get_or (drop s.at b) 0 0 = c.from-n.ensures ∙ k.2 ∙ sym (first-left b s.at) in
+    let r = row_read b (row (template_byte s.letters s.fields) 0 n (drop (s.at + 1) b)) (s.at + 1 + n) c.row.result c.ok.result c.row.ensures.result_value c.row.ensures.landed c.ok.ensures.value c.in_ok-end.end c.in_ok-end.was in (
       41,
-      symbols-wide c.args.letters c.args.fields c.args.limits.now (drop c.args.at b) c.requires.0 c.wide-n.result ys (symbol_count c.before.before.before.before.before.before) (counted c.before.before.before.before.before.before.before.before).0
-          (drop c.in-At-row.e b) (row_read c.before.before.before.before) (measured c.before.before false (lt-leb c.width_of.result 24 c.if-width_of-gt-WIDEST.true)),
+      symbols-wide s.letters s.fields s.limits.now (drop s.at b) c.requires.0 n (drop (s.at + 1) b) is k.0 (drop c.in_ok-end.end b) r.0
+          (measured s.limits.now b (s.at + 1) n c.in_ok-end.end c.width_of.result false r.1 c.width_of.ensures (lt-leb c.width_of.result 24 c.if-width_of-gt-WIDEST.true)),
     )
 
-pub returns-in-Stopped : goal.returns-in-Stopped
-returns-in-Stopped c =
-    let b = c.args.book.now in
-    let xs = drop c.args.at b in
-    let n = came_stopped b (count 0 12 xs) c.count.ensures.came c.in-Stopped.is in
-    (n.0, symbols-none c.args.letters c.args.fields c.args.limits.now xs c.requires.0 n.1)
-
-pub returns-in-Stopped-row : goal.returns-in-Stopped-row
-returns-in-Stopped-row c =
-    let b = c.args.book.now in
-    let ys = drop c.in-At.a b in
-    let n = c.wide-n.result in (
-      number_of c.in-Stopped-row.field-0,
-      symbols_stop c.args.letters c.args.fields c.args.limits.now (drop c.args.at b) c.requires.0 n ys (symbol_count c.before.before.before) (counted c.before.before.before.before.before).0
-          (fault-told b (row (template_byte c.args.letters c.args.fields) 0 n ys) c.row.ensures.result_value c.in-Stopped-row.is),
-    )
-
-pub returns-else-width_of-gt-WIDEST : goal.returns-else-width_of-gt-WIDEST
-returns-else-width_of-gt-WIDEST c =
-    let b = c.args.book.now in
-    let ys = drop c.in-At.a b in (
-      symbols-left c.args.letters c.args.fields c.args.limits.now (drop c.args.at b) c.requires.0 c.wide-n.result ys (symbol_count c.before.before.before.before.before.before) (counted c.before.before.before.before.before.before.before.before).0
-          (drop c.in-At-row.e b) (row_read c.before.before.before.before) (measured c.before.before true (le-leb c.width_of.result 24 (omega (arith, c.if-width_of-gt-WIDEST.false)))),
-      omega (arith, row-end c.before.before.before.before),
+pub returns : goal.returns
+returns c =
+    let s = c.args in
+    let b = s.book.now in
+    let n = c.from-n.result in
+    let k = c.in_ok-count.ensures in
+    let is : n ≡ get_or (drop s.at b) 0 0 = c.from-n.ensures ∙ k.2 ∙ sym (first-left b s.at) in
+    let r = row_read b (row (template_byte s.letters s.fields) 0 n (drop (s.at + 1) b)) (s.at + 1 + n) c.row.result c.ok.result c.row.ensures.result_value c.row.ensures.landed c.ok.ensures.value c.in_ok-end.end c.in_ok-end.was in (
+      symbols-left s.letters s.fields s.limits.now (drop s.at b) c.requires.0 n (drop (s.at + 1) b) is k.0 (drop c.in_ok-end.end b) r.0
+          (measured s.limits.now b (s.at + 1) n c.in_ok-end.end c.width_of.result true r.1 c.width_of.ensures (le-leb c.width_of.result 24 c.if-width_of-gt-WIDEST.false)),
+      omega arith,
     )

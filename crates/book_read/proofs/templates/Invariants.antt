@@ -10,8 +10,5 @@ use Rattle.book_read.proofs.templates.Given as goal
 abbrev pub one : ℕ → List ℕ → Step Unit
 one l xs = rest (a_template l xs)
 
-abbrev pub invariant-loop-i : goal.invariant-loop-i
-invariant-loop-i l = (l.i ≤ l.n) × (l.at ≤ length l.book) × (rest (times l.n (a_template l.letters) (drop l.start l.book)) ≡ rest (times (l.n - l.i) (one l.letters) (drop l.at l.book)))
-
-abbrev pub decreases-loop-i : goal.decreases-loop-i
-decreases-loop-i l = l.n - l.i
+abbrev pub invariant-loop : goal.invariant-loop
+invariant-loop l = (l.at ≤ length l.book) × (rest (times l.n (a_template l.letters) (drop l.start l.book)) ≡ rest (times (l.n - l.counter) (one l.letters) (drop l.at l.book)))
