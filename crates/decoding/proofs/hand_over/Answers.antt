@@ -1,17 +1,13 @@
 -- `decoding::hand_over` meets its contract: the refusals 37 to 39 in their order, or the filling's bytes. Assumes nothing.
-use mathlib.Core.Path.{◌≡◌, sym, ap, ◌∙◌}
-use mathlib.Core.Bool.{true}
+use mathlib.Core.Path.{sym, ap, ◌∙◌}
 use mathlib.Core.List.{◌++◌}
 use Prim.Native.Nat.{◌*◌}
 use lib.ListN.{length, take, drop}
-use borrow.Author.Rules.{rules}
-use borrow.Author.Tests.{not-true, not-false}
 use Rattle.model.specs.Sheet.{sheet_of}
 use Rattle.model.specs.Word as word
 use Rattle.model.specs.Filling.{encode_filling}
 use Rattle.formula.specs.Assignment.{truth}
 use Rattle.formula.specs.Assignment as assignment
-use Rattle.calls.specs.Reply.{all_single, none_after_blank}
 use Rattle.calls.proofs.Decoded.{decoding-place, decoding-blank, decoding_fails, decoding_hands, spelled-sized}
 use Rattle.calls.proofs.Operations.{keeps_all, hands_values}
 use Rattle.fields.specs.Memory.{texts_of}

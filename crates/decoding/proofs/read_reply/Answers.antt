@@ -1,6 +1,6 @@
 -- `decoding::read_reply` meets its contract: the refusals of the sheet, 27 and 30 in their order, or what reading the text comes to, with the
 -- marks clear. Assumes nothing.
-use mathlib.Core.Path.{◌≡◌, sym, subst, ◌∙◌}
+use mathlib.Core.Path.{sym, subst}
 use Prim.Native.Nat.{◌+◌, ◌≤◌}
 use native.Mathlib.Omega.{arith}
 use lib.ListN.{length}
@@ -10,7 +10,6 @@ use Rattle.calls.specs.Calls.{HandsOver}
 use Rattle.formula.proofs.Numbering.{variable_count_lem}
 use Rattle.calls.proofs.Operations.{keeps_all}
 use Rattle.calls.proofs.Replying.{replying_sheet, replying-room, replying-long, replying-text}
-use Rattle.sheet.specs.Answer.{number_of}
 use Rattle.decoding.specs.Answer.{replied}
 use Rattle.decoding.proofs.Laws.{clear_length, clear_front}
 use Rattle.decoding.proofs.read_reply.Goals as goal

@@ -1,11 +1,10 @@
 -- `decoding::read_text` meets its contract: the text's refusal, or what its marks spell, handed over. Assumes nothing.
-use mathlib.Core.Path.{◌≡◌, sym, subst, ◌∙◌}
+use mathlib.Core.Path.{sym, subst, ◌∙◌}
 use lib.ListN.{length}
 use Rattle.std.proofs.lemmas.Result.{err_from_is_err_and}
 use Rattle.model.specs.Sheet.{sheet_of}
 use Rattle.calls.specs.Calls.{HandsOver}
 use Rattle.calls.proofs.Operations.{keeps_all}
-use Rattle.listing.specs.Answer.{number_of}
 use Rattle.decoding.specs.Answer.{replied}
 use Rattle.decoding.proofs.Laws.{text-refused, text-listed}
 use Rattle.decoding.proofs.read_text.Goals as goal

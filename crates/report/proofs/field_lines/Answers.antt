@@ -4,7 +4,6 @@ use mathlib.Core.List.{List}
 use Prim.Native.Nat.{ℕ, ◌<◌}
 use native.Mathlib.Omega.{arith}
 use lib.ListN.{length, take}
-use lib.Seq.{length-take-le}
 use Rattle.model.specs.Lists.{All, Puts}
 use Rattle.model.specs.Sheet.{Counts, sheet_of}
 use Rattle.model.specs.Word.{text, letter_bytes}
