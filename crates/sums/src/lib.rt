@@ -59,27 +59,28 @@ fn next_code(first: usize, low: i16, c: i8, n: i16, d: usize) -> usize
     first + 2 * usize::from((n + i16::from(c) * (d as i16)).abs_diff(low))
 }
 
-// A sum of the fields before field k, for every length of it.
-fn put_sum(
-    buf: &mut [u8],
-    at: usize,
-    here: usize,
+// What the lines of a field's step have in common: the code of the field's first blank, how far apart its blanks are, its limit, the code of the least sum that
+// follows, that sum, and the field's coefficient.
+#[derive(Clone, Copy)]
+struct Step {
     blank: usize,
     stride: usize,
     limit: usize,
     first: usize,
     low: i16,
     c: i8,
-    n: i16,
-) -> usize
-    requires { (here ≤ large_code) × (blank ≤ most_code) × (stride ≤ 18) × (limit ≤ 8) × ((d : ℕ) → d ≤ limit → Added first low c n d) × (at + length (each (up_to (suc limit)) (add_line here blank stride limit first low c n)) ≤ length buf.old) }
-    ensures { Puts buf.old at (each (up_to (suc limit)) (add_line here blank stride limit first low c n)) buf.new result }
+}
+
+// A sum n of the fields before field k, for every length of it; `here` is the code of the sum's negation.
+fn put_sum(buf: &mut [u8], at: usize, step: Step, here: usize, n: i16) -> usize
+    requires { (here ≤ large_code) × (step.blank ≤ most_code) × (step.stride ≤ 18) × (step.limit ≤ 8) × ((d : ℕ) → d ≤ step.limit → Added step.first step.low step.c n d) × (at + length (each (up_to (suc step.limit)) (add_line here step.blank step.stride step.limit step.first step.low step.c n)) ≤ length buf.old) }
+    ensures { Puts buf.old at (each (up_to (suc step.limit)) (add_line here step.blank step.stride step.limit step.first step.low step.c n)) buf.new result }
 {
     let mut past = at;
-    for d in 0..limit + 1 {
-        let short = shorter(blank, stride, d);
-        let long = longer(blank, stride, limit, d);
-        let next = next_code(first, low, c, n, d);
+    for d in 0..step.limit + 1 {
+        let short = shorter(step.blank, step.stride, d);
+        let long = longer(step.blank, step.stride, step.limit, d);
+        let next = next_code(step.first, step.low, step.c, n, d);
         past = clause_line(buf, past, &[here, short, long, next]);
     }
     past
@@ -99,20 +100,17 @@ fn put_step(buf: &mut [u8], at: usize, sheet: &[u8], r: usize, k: usize) -> usiz
     let first = sum_code(sheet, r, k + 1, next, Sign::Is);
     let c = parts::coefficient(sheet, r, k);
     let last = numbering::spread(sheet, r, k);
+    let step = Step {
+        blank,
+        stride,
+        limit,
+        first,
+        low: next,
+        c,
+    };
     let mut past = at;
     for m in 0..last + 1 {
-        past = put_sum(
-            buf,
-            past,
-            here + 2 * m + 1,
-            blank,
-            stride,
-            limit,
-            first,
-            next,
-            c,
-            low + (m as i16),
-        );
+        past = put_sum(buf, past, step, here + 2 * m + 1, low + (m as i16));
     }
     past
 }

@@ -1,4 +1,3 @@
-use Prim.Native.Nat.{◌-◌, ◌≤◌}
 use Rattle.model.specs.Lists.{each, up_to}
 use Rattle.model.specs.Sheet.{sheet_of}
 use Rattle.model.proofs.Seams.{Written}

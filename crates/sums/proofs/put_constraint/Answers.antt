@@ -4,7 +4,7 @@ use mathlib.Core.List.{List, [], ◌∷◌}
 use Prim.Native.Nat.{ℕ}
 use Rattle.model.specs.Lists.{each, up_to}
 use Rattle.model.specs.Sheet.{Sheet, sheet_of}
-use Rattle.formula.specs.Clause.{Start, Zero, fields}
+use Rattle.formula.specs.Clause.{Zero, fields}
 use Rattle.model.proofs.Writing.{Writing, joined, begin, fits, next, ends}
 use Rattle.literals.specs.Name.{line_of}
 use Rattle.sums.specs.Lines.{step_lines, bound_lines, constraint_lines}

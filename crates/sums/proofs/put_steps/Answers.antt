@@ -1,10 +1,8 @@
 -- `sums::put_steps` meets its contract. The loop's invariant: the lines of the first k steps have been written. Assumes nothing.
-use Prim.Native.Nat.{◌-◌}
 use native.Mathlib.Omega.{arith}
 use Rattle.model.specs.Sheet.{sheet_of}
 use Rattle.formula.specs.Clause.{fields}
 use Rattle.model.proofs.Pieces.{loop_none, loop_room, loop_next, loop_done}
-use Rattle.formula.proofs.Small.{fields-few}
 use Rattle.sums.specs.Lines.{step_lines}
 use Rattle.sums.proofs.put_steps.Goals as goal
 

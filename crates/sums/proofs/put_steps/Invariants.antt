@@ -1,7 +1,5 @@
-use Prim.Native.Nat.{◌-◌, ◌≤◌}
 use Rattle.model.specs.Lists.{each, up_to}
 use Rattle.model.specs.Sheet.{sheet_of}
-use Rattle.formula.specs.Clause.{fields}
 use Rattle.model.proofs.Seams.{Written}
 use Rattle.sums.specs.Lines.{step_lines}
 use Rattle.sums.proofs.put_steps.Given as goal
