@@ -1,5 +1,5 @@
 -- What the enums of this crate say in document 01's numbers.
-use Rattle.std.specs.Prelude.{true, false, ℕ}
+use Rattle.std.specs.Prelude.{true, false, ℕ, Result, Ok, Err}
 use Rattle.calls.specs.Calls.{Answer, refused, verdict}
 use Rattle.sheet.specs.Answer as sheet
 use Rattle.automaton.specs.declared.Refusal.{Refusal}
@@ -13,7 +13,10 @@ number_of (Sheet f) = sheet.number_of f
 number_of Room = 27
 
 -- clash, or apart
-abbrev pub searched : Verdict → Answer
-searched found.Solution = verdict true
-searched found.Unsatisfiable = verdict false
-searched (found.Refused f) = refused (number_of f)
+abbrev pub verdict_of : Verdict → Answer
+verdict_of found.Solution = verdict true
+verdict_of found.Unsatisfiable = verdict false
+
+abbrev pub searched : Result Verdict Refusal → Answer
+searched (Ok v) = verdict_of v
+searched (Err f) = refused (number_of f)

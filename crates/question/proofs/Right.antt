@@ -1,6 +1,6 @@
 -- The search is right: the first vector at which the rows hold and an attempt succeeds gives an answer to what is asked, and no answer comes before it;
 -- where there is no such vector nothing answers it. Assumes nothing.
-use mathlib.Core.Path.{◌≡◌, sym, ap, subst, ◌∙◌}
+use mathlib.Core.Path.{◌≡◌, refl, sym, ap, subst, ◌∙◌}
 use mathlib.Core.Bool.{Bool, true, false}
 use mathlib.Core.List.{List, map}
 use mathlib.Core.Logic.{⊎_elim}
@@ -8,6 +8,9 @@ use Prim.Native.Nat.{ℕ, ◌+◌, ◌*◌, ◌<◌, ◌≤◌}
 use native.Mathlib.Omega.{arith}
 use lib.ListN.{length, get_or, get_or-eq_default}
 use borrow.Author.Tests.{eq-eqb}
+use Rattle.std.specs.Prelude.{IsSome, is_some}
+use Rattle.std.specs.declared.option.Option.{Option}
+use Rattle.std.specs.declared.option.Option.TheVariants as option
 use Rattle.model.specs.Lists.{All, all}
 use Rattle.model.specs.Sheet.{Sheet, limit, sheet_of}
 use Rattle.model.specs.Sheet as sheet
@@ -20,7 +23,6 @@ use Rattle.model.proofs.ByFields.{SameLengths, field-there, earlier_by_fields}
 use Rattle.formula.proofs.Small.{fields-few}
 use Rattle.fields.specs.declared.Field.{Field}
 use Rattle.fields.specs.Memory.{meaning, Held}
-use Rattle.unification.specs.declared.Found.{Found}
 use Rattle.unification.specs.Names.{app, value_of}
 use Rattle.unification.proofs.Laws.{by_lt}
 use Rattle.walk.specs.Reading.{texts}
@@ -75,7 +77,7 @@ module _ (b : List ℕ) (ok : Admitted b) (a : Ask) (asking : Asking (sheet_of b
   in_range = asked_in (EquationIn l s.limits) a.equations s.equations ok.1.equations_in
 
   -- what succeeds at a vector in the ranges answers
-  module _ (n : List ℕ) (within : Within a.lo a.hi n) (h : List Field) (i : Instance l n h) (solves : Solves es h) (hold : rows_hold rows count n ≡ true) where
+  module _ (n : List ℕ) (within : Within a.ranges.lo a.ranges.hi n) (h : List Field) (i : Instance l n h) (solves : Solves es h) (hold : rows_hold rows count n ≡ true) where
     short : (f : ℕ) → f < 6 → get_or n f 0 ≤ limit s f
     short f k = let x = within f k in let y = asking.limited f k in omega arith
 
@@ -102,59 +104,56 @@ module _ (b : List ℕ) (ok : Admitted b) (a : Ask) (asking : Asking (sheet_of b
     memory_solves =
         solves_in b memory (memory_held b ok g h.is_legal) questions in_range (subst (λ (k : Substitution). All (EquationHolds s k) questions) (sym (memory_means b ok g h.is_legal)) h.equations_hold)
 
-    answer_tries : (try_of es rows count (lengths_of g)).ok ≡ true
+    answer_tries : IsSome (try_of es rows count (lengths_of g))
     answer_tries =
         try_in es rows count (lengths_of g) (said g h.is_legal ∙ agrees_in s a g h)
         (attempt_complete es (lengths_of g) (reader g) (memory_refines b ok g h.is_legal) memory_solves)
 
     -- an attempt at its lengths has a higher letter nowhere
-    attempt_lower : (w : List ℕ) → Same (lengths_of g) w → (u : ℕ) → value_of (attempt_of es w).substitution u ≤ value_of memory u
-    attempt_lower w e u =
+    attempt_lower : (w : List ℕ) → Same (lengths_of g) w → (r : List Field) → attempt_of es w ≡ option.Some r → (u : ℕ) → value_of r u ≤ value_of memory u
+    attempt_lower w e r is u =
         let start = ap (app (reader g)) (start-same (lengths_of g) w e) in
-        rw start (attempt_least es w (reader g) (memory_refines b ok g h.is_legal) (subst (Solves es) start memory_solves) u)
+        rw start (attempt_least es w (reader g) (memory_refines b ok g h.is_legal) (subst (Solves es) start memory_solves) r is u)
 
   -- What is found at the first vector at which an attempt succeeds.
-  module _ (O : List ℕ → List ℕ → Type 0) (r : Found) (f : First (try_of es rows count) (Within a.lo a.hi) O r) where
-    module _ (t : r.ok ≡ true) where
-      abbrev hit : Hit (try_of es rows count) (Within a.lo a.hi) O r
-      hit = f.hit t
+  module _ (O : List ℕ → List ℕ → Type 0) (r : List Field) (f : First (try_of es rows count) (Within a.ranges.lo a.ranges.hi) O (option.Some r)) where
+    abbrev hit : Hit (try_of es rows count) (Within a.ranges.lo a.ranges.hi) O (option.Some r)
+    hit = f.hit refl
 
-      abbrev w : List ℕ
-      w = hit.vector
+    abbrev w : List ℕ
+    w = hit.vector
 
-      tried : Tried es rows count w
-      tried = try_out es rows count w (ap (λ (q : Found). q.ok) (sym hit.is) ∙ t)
+    tried : Tried es rows count w
+    tried = try_out es rows count w (ap is_some (sym hit.is))
 
-      is_attempt : (attempt_of es w).substitution ≡ r.substitution
-      is_attempt = ap (λ (q : Found). q.substitution) (sym (hit.is ∙ tried.is))
+    is_attempt : attempt_of es w ≡ option.Some r
+    is_attempt = sym (hit.is ∙ tried.is)
 
-      sound : Instance l w r.substitution × Solves es r.substitution
-      sound =
-          subst (λ (h : List Field). Instance l w h × Solves es h) is_attempt
-          (attempt_sound l ok.1.counts_in.of_letters.0 es (side-letters s ok.1 questions in_range) w tried.attempted)
+    sound : Instance l w r × Solves es r
+    sound = attempt_sound l ok.1.counts_in.of_letters.0 es (side-letters s ok.1 questions in_range) w r is_attempt
 
-      found-held : Held b r.substitution
-      found-held = hit-held w hit.inside r.substitution sound.0 sound.1 tried.rows_hold
+    found-held : Held b r
+    found-held = hit-held w hit.inside r sound.0 sound.1 tried.rows_hold
 
-      found_answers : Answers s a (meaning b r.substitution)
-      found_answers = hit_answers w hit.inside r.substitution sound.0 sound.1 tried.rows_hold
+    found_answers : Answers s a (meaning b r)
+    found_answers = hit_answers w hit.inside r sound.0 sound.1 tried.rows_hold
 
-      found_lengths : Same (lengths_of (meaning b r.substitution)) w
-      found_lengths = same_lengths w hit.inside r.substitution sound.0 sound.1 tried.rows_hold
+    found_lengths : Same (lengths_of (meaning b r)) w
+    found_lengths = same_lengths w hit.inside r sound.0 sound.1 tried.rows_hold
 
-    none_found : r.ok ≡ false → (g : Substitution) → Answers s a g → ⊥
-    none_found e g h = never (sym (f.miss e (lengths_of g) h.within) ∙ answer_tries g h)
+  none_found : (O : List ℕ → List ℕ → Type 0) → First (try_of es rows count) (Within a.ranges.lo a.ranges.hi) O option.None → (g : Substitution) → Answers s a g → ⊥
+  none_found O f g h = never (sym (f.miss refl (lengths_of g) h.within) ∙ answer_tries g h)
 
   -- The first by totals, then by the shorter field 0 and so on: of all answers none comes before it.
-  module _ (r : Found) (f : First (try_of es rows count) (Within a.lo a.hi) Sooner r) (t : r.ok ≡ true) (g : Substitution) (h : Answers s a g) where
+  module _ (r : List Field) (f : First (try_of es rows count) (Within a.ranges.lo a.ranges.hi) Sooner (option.Some r)) (g : Substitution) (h : Answers s a g) where
     abbrev found : Substitution
-    found = meaning b r.substitution
+    found = meaning b r
 
-    held : Held b r.substitution
-    held = found-held Sooner r f t
+    held : Held b r
+    held = found-held Sooner r f
 
-    lengths : Same (lengths_of found) (f.hit t).vector
-    lengths = found_lengths Sooner r f t
+    lengths : Same (lengths_of found) (f.hit refl).vector
+    lengths = found_lengths Sooner r f
 
     sized : length g ≡ length found
     sized = h.is_legal.one_each ∙ sym held.legal.one_each
@@ -166,27 +165,27 @@ module _ (b : List ℕ) (ok : Admitted b) (a : Ask) (asking : Asking (sheet_of b
         let inside : i < length s.limits = omega (arith, field-there found i c m, held.legal.one_each) in
         let same = e i in
         let means = memory_means b ok g h.is_legal in
-        let mine = letter-value b r.substitution held i c inside m in
+        let mine = letter-value b r held i c inside m in
         let its : get_or (text g i) c 0 ≡ value_of (memory g h) (8 + 8 * i + c) = rw means at (letter-value b (memory g h) (memory_held b ok g h.is_legal) i c inside (rw means (omega arith))) in
-        let low = rw (is_attempt Sooner r f t) at (attempt_lower g h (f.hit t).vector (λ i k. same_vectors g found e i k ∙ lengths i k) (8 + 8 * i + c)) in
+        let low = attempt_lower g h (f.hit refl).vector (λ i k. same_vectors g found e i k ∙ lengths i k) r (is_attempt Sooner r f) (8 + 8 * i + c) in
         omega arith)
         (λ m. rw (get_or-eq_default (text found i) 0 m) (omega arith))
 
     none-earlier : Earlier g found → ⊥
     none-earlier k =
         ⊎_elim
-        (λ sooner. never (sym ((f.hit t).first (lengths_of g) h.within (sooner_same (lengths_of g) (lengths_of found) (f.hit t).vector lengths sooner)) ∙ answer_tries g h))
+        (λ sooner. never (sym ((f.hit refl).first (lengths_of g) h.within (sooner_same (lengths_of g) (lengths_of found) (f.hit refl).vector lengths sooner)) ∙ answer_tries g h))
         (λ (e, k). let low = letter_low e k.field k.place in omega (arith, k.lower))
         (earlier_vectors g found (let n = h.is_legal.one_each in let six = fields-few s ok.1 in omega arith) sized ((earlier_by_fields s g found h.is_legal held.legal).0 k))
 
-  pub first_finds : (first : Bool) (r : Found) → First (try_of es rows count) (Within a.lo a.hi) (Order first) r → Finds b a first r
-  first_finds first r f = record {
+  pub first_finds : (first : Bool) (r : Option (List Field)) → First (try_of es rows count) (Within a.ranges.lo a.ranges.hi) (Order first) r → Finds b a first r
+  first_finds first option.None f = none_found (Order first) f
+  first_finds first (option.Some r) f = record {
     held = found-held (Order first) r f;
     answer = found_answers (Order first) r f;
     earliest = by first f;
-    none = none_found (Order first) r f;
   }
     where
-      by : (first : Bool) → First (try_of es rows count) (Within a.lo a.hi) (Order first) r → first ≡ true → r.ok ≡ true → (g : Substitution) → Answers s a g → Earlier g (meaning b r.substitution) → ⊥
+      by : (first : Bool) → First (try_of es rows count) (Within a.ranges.lo a.ranges.hi) (Order first) (option.Some r) → first ≡ true → (g : Substitution) → Answers s a g → Earlier g (meaning b r) → ⊥
       by true f e = none-earlier r f
       by false f e = never e

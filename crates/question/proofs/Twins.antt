@@ -14,7 +14,7 @@ use Rattle.boxes.specs.Boxes.{Twins}
 use Rattle.question.specs.declared.Ask.{Ask}
 use Rattle.question.specs.Ask.{Asking}
 
-pub asked_twins : (s : Sheet) → InRange s → (a : Ask) → Asking s a → (qs : List sheet.Equation) → All (EquationIn (length s.letters) s.limits) qs → Twins (map (sides_of s) qs) (map (mirror_sides s) qs) a.lo a.hi
+pub asked_twins : (s : Sheet) → InRange s → (a : Ask) → Asking s a → (qs : List sheet.Equation) → All (EquationIn (length s.letters) s.limits) qs → Twins (map (sides_of s) qs) (map (mirror_sides s) qs) a.ranges.lo a.ranges.hi
 asked_twins s ok a asking qs h n within =
     let short : (f : ℕ) → f < 6 → get_or n f 0 ≤ limit s f = λ f k. omega (arith, (within f k).1, asking.limited f k) in
     mirror_attempt s n (λ f k. omega (arith, short f k, limit-small s ok f)) qs (equations_fit s ok n short qs h)

@@ -7,48 +7,39 @@ ghost use Rattle.model.specs.Sheet.{sheet_of};
 ghost use Rattle.model.specs.Range.{Admitted};
 ghost use Rattle.question.specs.Ask.{Asking, Finds};
 
-use fields::Lengths;
+use bounds::Ranges;
+use fields::Substitution;
 use inequalities::{Marks, ROOM};
 use sides::{CELLS, WIDTHS};
-use unification::Found;
 
-// What is asked: lengths from `lo` to `hi`, and the equations and constraints that are marked.
+// What is asked: lengths in these ranges, and the equations and constraints that are marked.
 #[derive(Clone, Copy)]
 pub struct Ask {
-    pub lo: Lengths,
-    pub hi: Lengths,
+    pub ranges: Ranges,
     pub equations: Marks,
     pub constraints: Marks,
 }
 
 // A substitution that answers what is asked, where there is one: the first in document 02's order (No. 1), if that is asked for; else any one.
-pub fn find(sheet: &[u8], ask: Ask, first: bool) -> Found
+pub fn find(sheet: &[u8], ask: Ask, first: bool) -> Option<Substitution>
     requires { Admitted sheet.now × Asking (sheet_of sheet.now) ask }
     ensures { Finds sheet.now ask first result }
 {
-    let mut x = [0u8; CELLS];
-    let mut y = [0u8; CELLS];
-    let mut w = [0u8; WIDTHS];
-    let mut rows = [0u16; ROOM];
-    let equations = ask.equations;
-    let constraints = ask.constraints;
-    let ahead = sides::put_equations(&mut x, &mut w, sheet, equations, false);
+    let mut x = [0; CELLS];
+    let mut y = [0; CELLS];
+    let mut w = [0; WIDTHS];
+    let mut rows = [0; ROOM];
+    let ahead = sides::put_equations(&mut x, &mut w, sheet, ask.equations, false);
     // the reversed equations are as wide: the same widths are written to w again
-    let behind = sides::put_equations(&mut y, &mut w, sheet, equations, true);
-    let count = gathering::gather(sheet, equations, constraints, &mut rows);
-    let cells = ahead.cells;
-    let turned = behind.cells;
-    let widths = behind.widths;
-    let lo = ask.lo;
-    let hi = ask.hi;
+    let behind = sides::put_equations(&mut y, &mut w, sheet, ask.equations, true);
+    let count = gathering::gather(sheet, ask.equations, ask.constraints, &mut rows);
     lengths::first(
-        &x[..cells],
-        &y[..turned],
-        &w[..widths],
+        &x[..ahead.cells],
+        &y[..behind.cells],
+        &w[..behind.widths],
         &rows,
         count,
-        lo,
-        hi,
+        ask.ranges,
         first,
     )
 }

@@ -6,9 +6,6 @@ use Rattle.bounds.proofs.Sums.{sum_grows}
 use Rattle.bounds.proofs.Narrowing.{tightened_before, both_inside, both_keep, both_widest}
 use Rattle.bounds.proofs.+tighten.Goals as goal
 
-pub returns-in_err-left : goal.returns-in_err-left
-returns-in_err-left t c = rw c.from_residual.ensures c.in_err-left.ensures
-
 pub tighten-requires : goal.tighten-requires
 tighten-requires t c =
     let passed = c.in_ok-left.ensures in

@@ -14,9 +14,6 @@ returns-in_err-slack c =
     let a = c.args in
     rw c.from_residual.ensures (row_hopeless a.rows.now a.at a.ranges.lo a.ranges.hi _ _ c.side_sum-least.ensures c.side_sum-most.ensures (omega (arith, c.in_err-slack.ensures)))
 
-pub field_range-range-requires : goal.field_range-range-requires
-field_range-range-requires c = (omega (arith, c.requires.0), c.requires.1 c.loop-f.f c.loop-f-test.true)
-
 pub loop-f-preserved : goal.loop-f-preserved
 loop-f-preserved c =
     let l = c.loop-f in

@@ -10,9 +10,6 @@ pub loop-x-init : goal.loop-x-init
 unfolding total
 loop-x-init c = (omega arith, omega arith)
 
-pub overflow_add-sum : goal.overflow_add-sum
-overflow_add-sum c = let fits = c.loop-x-test.element_fits in omega arith
-
 pub loop-x-preserved : goal.loop-x-preserved
 unfolding total
 loop-x-preserved c = let fits = c.loop-x-test.element_fits in rw add-one (omega arith, omega arith)

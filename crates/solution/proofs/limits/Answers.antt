@@ -30,30 +30,23 @@ one_more h n f x less i e = record {
     by k l (no q) = get_or-set_other n f k x 0 q ∙ i.there k (omega arith)
 
 pub loop-f-init : goal.loop-f-init
-loop-f-init c = (omega arith, none_first _)
-
-pub limit-requires : goal.limit-requires
-limit-requires c =
-    (c.requires.0, omega (arith, c.fields-fields.ensures))
+loop-f-init c = none_first _
 
 pub bounds-n-f : goal.bounds-n-f
 bounds-n-f c =
-    let at-loop = c.before.before.before in
-    let few = fields-few (sheet_of at-loop.args.sheet.now) at-loop.requires.1 in
-    omega arith
+    let few = fields-few (sheet_of c.args.sheet.now) c.requires.1 in
+    omega (arith, c.fields-f-end.ensures)
 
 pub loop-f-preserved : goal.loop-f-preserved
 loop-f-preserved c =
-    let at-loop = c.before.before.before in
-    let s = sheet_of at-loop.args.sheet.now in
-    let few = fields-few s at-loop.requires.1 in
-    (omega arith, one_more _ at-loop.loop-f.n at-loop.loop-f.f c.limit.result (omega arith) at-loop.loop-f.invariant.1 c.limit.ensures)
+    let s = sheet_of c.args.sheet.now in
+    let few = fields-few s c.requires.1 in
+    one_more _ c.loop-f.n c.loop-f.f c.limit.result (omega (arith, c.fields-f-end.ensures)) c.loop-f.invariant c.limit.ensures
 
 pub returns : goal.returns
 returns c f h =
-    let at-loop = c.before.before in
-    let s = sheet_of at-loop.args.sheet.now in
-    let all : at-loop.loop-f.f ≡ length s.limits = omega arith in
+    let s = sheet_of c.args.sheet.now in
+    let all : c.loop-f.f ≡ length s.limits = omega (arith, c.fields-f-end.ensures) in
     by_test (ltb f (length s.limits))
-    (λ e. at-loop.loop-f.invariant.1.there f (let l = ltb-true f (length s.limits) e in omega arith))
-    (λ e. let l = ltb-false f (length s.limits) e in at-loop.loop-f.invariant.1.none f (omega arith) ∙ sym (get_or-eq_default s.limits 0 l))
+    (λ e. c.loop-f.invariant.there f (let l = ltb-true f (length s.limits) e in omega arith))
+    (λ e. let l = ltb-false f (length s.limits) e in c.loop-f.invariant.none f (omega arith) ∙ sym (get_or-eq_default s.limits 0 l))

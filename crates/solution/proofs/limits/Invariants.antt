@@ -1,6 +1,6 @@
 use mathlib.Core.Path.{◌≡◌}
 use mathlib.Core.List.{List}
-use Prim.Native.Nat.{ℕ, ◌-◌, ◌<◌, ◌≤◌}
+use Prim.Native.Nat.{ℕ, ◌<◌, ◌≤◌}
 use lib.ListN.{length, get_or}
 use Rattle.model.specs.Sheet.{sheet_of, limit}
 use Rattle.solution.proofs.limits.Given as goal
@@ -12,7 +12,4 @@ pub record Copied (h : ℕ → ℕ) (n : List ℕ) (f : ℕ) : Type 0 where
   pub none : (k : ℕ) → f ≤ k → get_or n k 0 ≡ 0
 
 abbrev pub invariant-loop-f : goal.invariant-loop-f
-invariant-loop-f l = (l.f ≤ l.fields) × Copied (limit (sheet_of l.sheet)) l.n l.f
-
-abbrev pub decreases-loop-f : goal.decreases-loop-f
-decreases-loop-f l = l.fields - l.f
+invariant-loop-f l = Copied (limit (sheet_of l.sheet)) l.n l.f
