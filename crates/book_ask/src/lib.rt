@@ -3,21 +3,15 @@
 #![tactic(auto)]
 
 ghost use Rattle.std.specs.Prelude.{◌≡◌, ◌<◌, length};
-ghost use Rattle.model.specs.Lists.{pick};
 ghost use Rattle.book.specs.Book.{book_of, Admitted};
 ghost use Rattle.book.specs.Pairs as model;
 ghost use Rattle.book_ask.specs.Verdicts.{Remembers};
 
 use book_question::{MOST_QUESTION, put_question};
 use book_repeats::first_alike;
-use scan::stretch;
 
-// Verdicts are remembered in a table of 16 rows of 16 bytes: that of templates a and b in row a, at b.
+// Verdicts are remembered in a table of 16 rows of 16: that of templates a and b in row a, at b, where it is known.
 const ROW: usize = 16;
-
-const APART: u8 = 1;
-
-const CLASH: u8 = 2;
 
 // Whether templates i and j clash.
 fn clash(book: &[u8], i: usize, j: usize) -> bool
@@ -26,22 +20,12 @@ fn clash(book: &[u8], i: usize, j: usize) -> bool
 {
     let mut question = [0; MOST_QUESTION];
     let n = put_question(&mut question, book, i, j);
-    let found = solution::solve(stretch(&question, 0, n), false);
+    let found = solution::solve(&question[..n], false);
     found.ok
 }
 
-// A verdict as a byte.
-fn verdict(found: bool) -> u8
-    ensures { result ≡ pick found 2 1 }
-{
-    if found {
-        return CLASH;
-    }
-    APART
-}
-
 // Whether templates i and j clash. The first templates that are the same as they are asked, and only where their verdict is not known yet.
-pub fn settled(verdicts: &mut [u8], book: &[u8], i: usize, j: usize) -> bool
+pub fn settled(verdicts: &mut [Option<bool>], book: &[u8], i: usize, j: usize) -> bool
     requires { Admitted book.now × (i < j) × (j < length (book_of book.now).templates) × Remembers (book_of book.now) verdicts.old }
     ensures value { result ≡ model.clash (book_of book.now) i j }
     ensures remembers { Remembers (book_of book.now) verdicts.new }
@@ -49,13 +33,10 @@ pub fn settled(verdicts: &mut [u8], book: &[u8], i: usize, j: usize) -> bool
     let a = first_alike(book, 0, i);
     let b = first_alike(book, a + 1, j);
     let at = a * ROW + b;
-    if verdicts[at] == CLASH {
-        return true;
-    }
-    if verdicts[at] == APART {
-        return false;
+    if let Some(known) = verdicts[at] {
+        return known;
     }
     let found = clash(book, a, b);
-    verdicts[at] = verdict(found);
+    verdicts[at] = Some(found);
     found
 }
