@@ -20,8 +20,7 @@ fn clash(book: &[u8], i: usize, j: usize) -> bool
 {
     let mut question = [0; MOST_QUESTION];
     let n = put_question(&mut question, book, i, j);
-    let found = solution::solve(&question[..n], false);
-    found.ok
+    solution::solve(&question[..n], false).is_some()
 }
 
 // Whether templates i and j clash. The first templates that are the same as they are asked, and only where their verdict is not known yet.
