@@ -9,10 +9,8 @@ use Rattle.formula.specs.Numbering.{variables}
 use Rattle.formula.specs.Assignment.{truth}
 use Rattle.calls.specs.Reply.{assigned}
 use Rattle.calls.specs.Calls.{refused, formed, decoding}
-use Rattle.std.proofs.lemmas.List.{take-replicate}
+use Rattle.model.proofs.Seams.{take-replicate}
 use Rattle.calls.proofs.Decoded.{decoding_alike}
-use Rattle.tally.specs.declared.Mark.{Mark}
-use Rattle.tally.specs.declared.Mark.TheVariants.{Unlisted}
 use Rattle.listing.specs.declared.Fault.{Fault}
 use Rattle.std.specs.Prelude.{Ok, Err}
 use Rattle.listing.specs.Answer.{number_of, Form}
@@ -33,11 +31,11 @@ module _ (s : Sheet) (n : ℕ) (t m : List ℕ) (all : n ≡ suc (length (variab
       ∙ decoding_alike s (assigned t) (truth m) (λ k low high. sym (h.2 k (omega arith)))
 
 -- the first of marks that are not set
-abbrev clear : ℕ → List Mark
-clear k = replicate k Unlisted
+abbrev clear : ℕ → List ℕ
+clear k = replicate k 0
 
 pub clear_length : (n k : ℕ) → n ≤ k → length (take n (clear k)) ≡ n
-clear_length n k h = ap length (take-replicate n k Unlisted h) ∙ length-replicate n Unlisted
+clear_length n k h = ap length (take-replicate n k 0 h) ∙ length-replicate n 0
 
 pub clear_front : (n k : ℕ) → n ≤ k → take n (clear k) ≡ clear (length (take n (clear k)))
-clear_front n k h = take-replicate n k Unlisted h ∙ ap clear (sym (clear_length n k h))
+clear_front n k h = take-replicate n k 0 h ∙ ap clear (sym (clear_length n k h))

@@ -8,14 +8,11 @@ ghost use Rattle.formula.specs.Assignment.{truth};
 ghost use Rattle.calls.specs.Reply.{assigned};
 ghost use Rattle.calls.specs.Calls.{formed, replying, HandsOver};
 ghost use Rattle.calls.specs.Calls as model;
-ghost use Rattle.tally.specs.declared.Mark.TheVariants.{Unlisted};
-ghost use Rattle.tally.specs.Tally.{codes};
 ghost use Rattle.places.specs.Marked.{Marked};
 ghost use Rattle.decoding.specs.declared.Refusal.TheVariants.{Sheet, Text};
 ghost use Rattle.decoding.specs.Answer.{number_of, replied};
 
 use fields::FIELD_BYTES;
-use tally::Mark;
 
 // The most bytes of a text, and the most marks: of 0 and of each variable.
 const MOST_REPLY: usize = 65536;
@@ -68,9 +65,9 @@ impl From<Refusal> for u8 {
 }
 
 // Hands over what the marks spell, if it solves the sheet.
-fn hand_over(sheet: &[u8], marks: &[Mark], buf: &mut [u8]) -> Result<(), Refusal>
+fn hand_over(sheet: &[u8], marks: &[u8], buf: &mut [u8]) -> Result<(), Refusal>
     requires { Marked sheet.now marks.now × (9 * length (sheet_of sheet.now).limits ≤ length buf.old) }
-    ensures { HandsOver (model.decoding (sheet_of sheet.now) (truth (codes marks.now))) buf.old (replied result) buf.new }
+    ensures { HandsOver (model.decoding (sheet_of sheet.now) (truth marks.now)) buf.old (replied result) buf.new }
 {
     if !places::all_single(sheet, marks) {
         return Err(Refusal::Place);
@@ -87,8 +84,8 @@ fn hand_over(sheet: &[u8], marks: &[Mark], buf: &mut [u8]) -> Result<(), Refusal
 }
 
 // Reads a text of an accepted sheet, the lent marks being one for 0 and for each variable, and hands over what it spells.
-fn read_text(sheet: &[u8], text: &[u8], marks: &mut [Mark], buf: &mut [u8]) -> Result<(), Refusal>
-    requires { Marked sheet.now marks.old × (marks.old ≡ replicate (length marks.old) Unlisted) × (length text.now ≤ 65536) × (9 * length (sheet_of sheet.now).limits ≤ length buf.old) }
+fn read_text(sheet: &[u8], text: &[u8], marks: &mut [u8], buf: &mut [u8]) -> Result<(), Refusal>
+    requires { Marked sheet.now marks.old × (marks.old ≡ replicate (length marks.old) 0) × (length text.now ≤ 65536) × (9 * length (sheet_of sheet.now).limits ≤ length buf.old) }
     ensures { HandsOver (formed (length (variables (sheet_of sheet.now))) text.now (model.decoding (sheet_of sheet.now) (assigned text.now))) buf.old (replied result) buf.new }
 {
     listing::read(marks, text)?;
@@ -109,7 +106,7 @@ pub fn read_reply(sheet: &[u8], text: &[u8], buf: &mut [u8]) -> Result<(), Refus
         return Err(Refusal::Long);
     }
     // No heap: room for the most marks.
-    let mut marks = [Mark::Unlisted; MOST_MARKS];
+    let mut marks = [0u8; MOST_MARKS];
     let n = numbering::variable_count(sheet) + 1;
     read_text(sheet, text, &mut marks[..n], buf)
 }

@@ -4,11 +4,9 @@
 
 ghost use Rattle.std.specs.Prelude.{◌≡◌, ◌<◌, ◌≤◌, length, replicate};
 ghost use Rattle.calls.specs.Reply.{line_ended};
-ghost use Rattle.tally.specs.declared.Mark.TheVariants.{Unlisted};
-ghost use Rattle.tally.specs.Tally.{codes};
 ghost use Rattle.listing.specs.Answer.{number_of, Form};
 
-use tally::{LINE_END, Mark};
+use tally::{LINE_END, UNLISTED};
 
 // What a text is refused for, by document 01's numbers 31 to 36.
 #[derive(Clone, Copy, Debug, PartialEq, Eq)]
@@ -45,10 +43,10 @@ fn ended(text: &[u8]) -> bool
 }
 
 // Reads a text of at most 65,536 bytes: whether it breaks none of document 01's 31 to 36, the variables being as many as there are marks but
-// one, or the first of these. If none, a variable's mark is `Plus` just where the text makes it true.
-pub fn read(marks: &mut [Mark], text: &[u8]) -> Result<(), Fault>
-    requires { (0 < length marks.old) × (marks.old ≡ replicate (length marks.old) Unlisted) × (length text.now ≤ 65536) }
-    ensures { Form (length marks.old) text.now result (codes marks.new) }
+// one, or the first of these. If none, a variable's mark is `tally::PLUS` just where the text makes it true.
+pub fn read(marks: &mut [u8], text: &[u8]) -> Result<(), Fault>
+    requires { (0 < length marks.old) × (marks.old ≡ replicate (length marks.old) 0) × (length text.now ≤ 65536) }
+    ensures { Form (length marks.old) text.now result marks.new }
 {
     if !ended(text) {
         return Err(Fault::End);
@@ -59,7 +57,7 @@ pub fn read(marks: &mut [Mark], text: &[u8]) -> Result<(), Fault>
     if !sum.status || sum.again || sum.early {
         return Err(Fault::Status);
     }
-    if sum.after || marks[0] == Mark::Unlisted {
+    if sum.after || marks[0] == UNLISTED {
         return Err(Fault::Closing);
     }
     if sum.above {

@@ -10,11 +10,9 @@ ghost use Rattle.formula.specs.Assignment.{truth, true_values, up_to_blank};
 ghost use Rattle.formula.specs.Assignment as assignment;
 ghost use Rattle.calls.specs.Reply.{all_single, blanks_last, none_after_blank};
 ghost use Rattle.fields.specs.Memory.{text_of, Whole, meaning, Held};
-ghost use Rattle.tally.specs.Tally.{codes};
 ghost use Rattle.places.specs.Marked.{Marked};
 
 use fields::{EMPTY, FIELDS, Field, PAST, PLACES, Substitution};
-use tally::Mark;
 
 // How many values are true at a place, and the least of them; where none is, blank.
 #[derive(Clone, Copy)]
@@ -24,16 +22,16 @@ struct Truths {
 }
 
 // The values at place c of field f.
-fn values(sheet: &[u8], marks: &[Mark], f: usize, c: usize) -> Truths
+fn values(sheet: &[u8], marks: &[u8], f: usize, c: usize) -> Truths
     requires { Marked sheet.now marks.now × (f < length (sheet_of sheet.now).limits) × (c < model.limit (sheet_of sheet.now) f) }
-    ensures { (result.count ≡ length (true_values (sheet_of sheet.now) (truth (codes marks.now)) f c)) × (result.least ≡ assignment.held (sheet_of sheet.now) (truth (codes marks.now)) f c) × (result.least ≤ blank (sheet_of sheet.now)) }
+    ensures { (result.count ≡ length (true_values (sheet_of sheet.now) (truth marks.now) f c)) × (result.least ≡ assignment.held (sheet_of sheet.now) (truth marks.now) f c) × (result.least ≤ blank (sheet_of sheet.now)) }
 {
     let blank = shape::letters(sheet);
     let first = numbering::place_number(sheet, f, c, 0);
     let mut count: usize = 0;
     let mut least = blank;
     for a in (0..blank + 1).rev() {
-        if marks[first + a] == Mark::Plus {
+        if marks[first + a] == tally::PLUS {
             count += 1;
             least = a;
         }
@@ -56,9 +54,9 @@ fn every<F: Fn(usize) -> bool>(n: usize, passes: F) -> bool
 }
 
 // Whether every place of field f has just one true value.
-fn single(sheet: &[u8], marks: &[Mark], f: usize) -> bool
+fn single(sheet: &[u8], marks: &[u8], f: usize) -> bool
     requires { Marked sheet.now marks.now × (f < length (sheet_of sheet.now).limits) }
-    ensures { result ≡ all (λ c. eqb (length (true_values (sheet_of sheet.now) (truth (codes marks.now)) f c)) 1) (up_to (model.limit (sheet_of sheet.now) f)) }
+    ensures { result ≡ all (λ c. eqb (length (true_values (sheet_of sheet.now) (truth marks.now) f c)) 1) (up_to (model.limit (sheet_of sheet.now) f)) }
 {
     every(
         shape::limit(sheet, f),
@@ -67,9 +65,9 @@ fn single(sheet: &[u8], marks: &[Mark], f: usize) -> bool
 }
 
 // Whether no letter stands after a blank in field f.
-fn blanks_last(sheet: &[u8], marks: &[Mark], f: usize) -> bool
+fn blanks_last(sheet: &[u8], marks: &[u8], f: usize) -> bool
     requires { Marked sheet.now marks.now × (f < length (sheet_of sheet.now).limits) }
-    ensures { result ≡ blanks_last (blank (sheet_of sheet.now)) (map (assignment.held (sheet_of sheet.now) (truth (codes marks.now)) f) (up_to (model.limit (sheet_of sheet.now) f))) }
+    ensures { result ≡ blanks_last (blank (sheet_of sheet.now)) (map (assignment.held (sheet_of sheet.now) (truth marks.now) f) (up_to (model.limit (sheet_of sheet.now) f))) }
 {
     let blank = shape::letters(sheet);
     let limit = shape::limit(sheet, f);
@@ -86,29 +84,28 @@ fn blanks_last(sheet: &[u8], marks: &[Mark], f: usize) -> bool
 }
 
 // Whether every place of every field, used in a template or not, has just one true value (document 01's 37).
-pub fn all_single(sheet: &[u8], marks: &[Mark]) -> bool
+pub fn all_single(sheet: &[u8], marks: &[u8]) -> bool
     requires { Marked sheet.now marks.now }
-    ensures { result ≡ all_single (sheet_of sheet.now) (truth (codes marks.now)) }
+    ensures { result ≡ all_single (sheet_of sheet.now) (truth marks.now) }
 {
     every(shape::fields(sheet), |f| single(sheet, marks, f))
 }
 
 // Whether no letter stands after a blank in any field, used in a template or not (document 01's 38).
-pub fn none_after_blank(sheet: &[u8], marks: &[Mark]) -> bool
+pub fn none_after_blank(sheet: &[u8], marks: &[u8]) -> bool
     requires { Marked sheet.now marks.now }
-    ensures { result ≡ none_after_blank (sheet_of sheet.now) (truth (codes marks.now)) }
+    ensures { result ≡ none_after_blank (sheet_of sheet.now) (truth marks.now) }
 {
     every(shape::fields(sheet), |f| blanks_last(sheet, marks, f))
 }
 
 // The text of field f: up to the first blank or the limit, what its places hold.
-fn field_text(sheet: &[u8], marks: &[Mark], f: usize) -> Field
+fn field_text(sheet: &[u8], marks: &[u8], f: usize) -> Field
     requires { Marked sheet.now marks.now × (f < length (sheet_of sheet.now).limits) }
-    ensures { Whole result × (text_of result ≡ up_to_blank (blank (sheet_of sheet.now)) (assignment.held (sheet_of sheet.now) (truth (codes marks.now)) f) 0 (model.limit (sheet_of sheet.now) f)) }
+    ensures { Whole result × (text_of result ≡ up_to_blank (blank (sheet_of sheet.now)) (assignment.held (sheet_of sheet.now) (truth marks.now) f) 0 (model.limit (sheet_of sheet.now) f)) }
 {
     let blank = shape::letters(sheet);
     let limit = shape::limit(sheet, f);
-    // Values and places are at most 8, so the casts to a byte keep them.
     let mut letters = [PAST; PLACES];
     for c in 0..limit {
         let here = values(sheet, marks, f, c).least;
@@ -127,9 +124,9 @@ fn field_text(sheet: &[u8], marks: &[Mark], f: usize) -> Field
 }
 
 // The substitution that the marks spell.
-pub fn spelled(sheet: &[u8], marks: &[Mark]) -> Substitution
+pub fn spelled(sheet: &[u8], marks: &[u8]) -> Substitution
     requires { Marked sheet.now marks.now }
-    ensures { Held sheet.now result × (meaning sheet.now result ≡ assignment.spelled (sheet_of sheet.now) (truth (codes marks.now))) }
+    ensures { Held sheet.now result × (meaning sheet.now result ≡ assignment.spelled (sheet_of sheet.now) (truth marks.now)) }
 {
     let fields = shape::fields(sheet);
     let mut g = [EMPTY; FIELDS];

@@ -1,55 +1,19 @@
 -- One number noted in the tally and in the marks, and what the marks say after it. Assumes nothing.
 use mathlib.Core.Path.{◌≡◌, refl, sym, ap, ◌∙◌}
 use mathlib.Core.Bool.{Bool, true, false, not, ◌&&◌, ◌||◌, and-true, and-false, or-true, or-false}
-use mathlib.Core.List.{List, ◌∷◌}
-use Prim.Native.Nat.{ℕ, zero, suc, ◌<◌, ◌≤◌}
+use mathlib.Core.List.{List}
+use Prim.Native.Nat.{ℕ, suc, ◌<◌, ◌≤◌}
 use lib.Dec.{eqb}
 use lib.IntN.{ℤ, pos, negsuc, nat_abs}
-use lib.ListN.{length, get_or, length-set, length-map, get_or-map, get_or-eq_default, set, replicate}
+use lib.ListN.{length, get_or, length-set, get_or-eq_default}
 use lib.Seq.{set_out, get_or-set_same, get_or-set_other}
 use borrow.Author.Tests.{le-leb, lt-leb, eqb-true, eqb-false}
 use Rattle.model.specs.Lists.{pick}
 use Rattle.formula.specs.Assignment.{truth}
 use Rattle.calls.specs.Reply.{is_plus}
 use Rattle.model.proofs.Lists.{by_test, or_right}
-use Rattle.std.proofs.lemmas.List.{map-set}
 use Rattle.tally.specs.declared.Tally.{Tally}
-use denote.Enum.Bare.{sameb}
-use Rattle.tally.specs.contracts.Mark.{the_type}
-use Rattle.tally.specs.declared.Mark.{Mark}
-use Rattle.tally.specs.declared.Mark.TheVariants.{Unlisted, Plus, Minus}
-use Rattle.tally.specs.Tally.{code, codes, is_marked, mark_of, noted, marked, is_pos}
-
--- Marks and their numbers: at an index, how many, and one set.
-pub code_at : (m : List Mark) (n : ℕ) → get_or (codes m) n 0 ≡ code (get_or m n Unlisted)
-code_at m n = get_or-map code m n Unlisted
-
-pub length-codes : (m : List Mark) → length (codes m) ≡ length m
-length-codes m = length-map m code
-
-pub codes-set : (m : List Mark) (n : ℕ) (x : Mark) → codes (set m n x) ≡ set (codes m) n (code x)
-codes-set m n x = map-set code m n x
-
--- What the code's comparison of a mark says of its number.
-unlisted_tested : (x : Mark) → sameb the_type x Unlisted ≡ eqb (code x) 0
-unlisted_tested Unlisted = refl
-unlisted_tested Plus = refl
-unlisted_tested Minus = refl
-
-plus_tested : (x : Mark) → sameb the_type x Plus ≡ eqb (code x) 1
-plus_tested Unlisted = refl
-plus_tested Plus = refl
-plus_tested Minus = refl
-
-pub unlisted_at : (m : List Mark) (n : ℕ) → sameb the_type (get_or m n Unlisted) Unlisted ≡ eqb (get_or (codes m) n 0) 0
-unlisted_at m n = unlisted_tested (get_or m n Unlisted) ∙ sym (ap (λ w. eqb w 0) (code_at m n))
-
-pub plus_at : (m : List Mark) (n : ℕ) → sameb the_type (get_or m n Unlisted) Plus ≡ eqb (get_or (codes m) n 0) 1
-plus_at m n = plus_tested (get_or m n Unlisted) ∙ sym (ap (λ w. eqb w 1) (code_at m n))
-
-pub codes-clear : (n : ℕ) → codes (replicate n Unlisted) ≡ replicate n 0
-codes-clear zero = refl
-codes-clear (suc n) = ap (λ (xs : List ℕ). 0 ∷ xs) (codes-clear n)
+use Rattle.tally.specs.Tally.{is_marked, mark_of, noted, marked, is_pos}
 
 -- A number is noted: past the last mark, and at its mark.
 module _ (m : List ℕ) (t : Tally) (n : ℕ) where

@@ -1,20 +1,9 @@
 -- What the text's lines and numbers come to, one after another.
-use Rattle.std.specs.Prelude.{◌≡◌, Bool, true, false, not, ◌||◌, List, [], ◌∷◌, map, ℕ, leb, eqb, ℤ, pos, negsuc, nat_abs, length, get_or, set, drop, Option, Some, None}
+use Rattle.std.specs.Prelude.{◌≡◌, Bool, true, false, not, ◌||◌, List, [], ◌∷◌, ℕ, leb, eqb, ℤ, pos, negsuc, nat_abs, length, get_or, set, drop, Option, Some, None}
 use Rattle.model.specs.Lists.{pick, all}
 use Rattle.formula.specs.Dimacs.{numbers}
 use Rattle.calls.specs.Reply.{split, lines, spaced, is_number, status_line, value_line, known, line_numbers}
 use Rattle.tally.specs.declared.Tally.{Tally}
-use Rattle.tally.specs.declared.Mark.{Mark}
-use Rattle.tally.specs.declared.Mark.TheVariants.{Unlisted, Plus, Minus}
-
--- A mark in the numbers of these definitions, and several.
-abbrev pub code : Mark → ℕ
-code Unlisted = 0
-code Plus = 1
-code Minus = 2
-
-abbrev pub codes : List Mark → List ℕ
-codes m = map code m
 
 -- A number's mark: 0 where it is not listed, 1 where it is listed without a minus, else 2.
 abbrev pub is_marked : List ℕ → ℕ → Bool

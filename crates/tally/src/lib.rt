@@ -3,7 +3,7 @@
 #![tactic(auto)]
 
 ghost use Rattle.std.specs.Prelude.{◌≡◌, ◌||◌, ◌<◌, ◌≤◌, length};
-ghost use Rattle.tally.specs.Tally.{code, codes, mark_of, noted, marked, ReadValues, ReadLine, ReadLines};
+ghost use Rattle.tally.specs.Tally.{mark_of, noted, marked, ReadValues, ReadLine, ReadLines};
 
 use numerals::{Number, read_number};
 use scan::find;
@@ -13,13 +13,12 @@ pub const LINE_END: u8 = 10;
 
 const SPACE: u8 = 32;
 
-// The mark of a number: not listed; listed as it is; listed with a minus.
-#[derive(Clone, Copy, Debug, PartialEq, Eq)]
-pub enum Mark {
-    Unlisted,
-    Plus,
-    Minus,
-}
+// The marks of a number: not listed; listed as it is; listed with a minus.
+pub const UNLISTED: u8 = 0;
+
+pub const PLUS: u8 = 1;
+
+const MINUS: u8 = 2;
 
 // What was met so far: an s line, a second one, a v line before any s line, a number after a 0, a number that has no mark, a number met
 // before.
@@ -34,24 +33,24 @@ pub struct Tally {
 }
 
 // The mark of a number that had the mark `was`: once listed without a minus it stays so.
-fn marking(was: Mark, plus: bool) -> Mark
-    ensures { code result ≡ mark_of (code was) plus }
+fn mark(was: u8, plus: bool) -> u8
+    ensures { result ≡ mark_of was plus }
 {
     if plus {
-        Mark::Plus
-    } else if was == Mark::Unlisted {
-        Mark::Minus
+        PLUS
+    } else if was == UNLISTED {
+        MINUS
     } else {
         was
     }
 }
 
 // Notes a number, with a minus or not, and marks it.
-fn note(marks: &mut [Mark], tally: Tally, n: usize, plus: bool) -> Tally
+fn note(marks: &mut [u8], tally: Tally, n: usize, plus: bool) -> Tally
     requires { 0 < length marks.old }
-    ensures { (result ≡ noted (codes marks.old) tally n) × (codes marks.new ≡ marked (codes marks.old) n plus) }
+    ensures { (result ≡ noted marks.old tally n) × (marks.new ≡ marked marks.old n plus) }
 {
-    let after = tally.after | (marks[0] != Mark::Unlisted);
+    let after = tally.after | (marks[0] != UNLISTED);
     if n >= marks.len() {
         return Tally {
             after,
@@ -60,22 +59,21 @@ fn note(marks: &mut [Mark], tally: Tally, n: usize, plus: bool) -> Tally
         };
     }
     let was = marks[n];
-    marks[n] = marking(was, plus);
+    marks[n] = mark(was, plus);
     Tally {
         after,
-        twice: tally.twice | (was != Mark::Unlisted),
+        twice: tally.twice | (was != UNLISTED),
         ..tally
     }
 }
 
 // Notes the numbers of a v line.
-fn read_values(marks: &mut [Mark], tally: Tally, line: &[u8]) -> Option<Tally>
+fn read_values(marks: &mut [u8], tally: Tally, line: &[u8]) -> Option<Tally>
     requires { (0 < length marks.old) × (length line.now ≤ 65536) }
-    ensures { ReadValues (codes marks.old) tally line.now result (codes marks.new) }
+    ensures { ReadValues marks.old tally line.now result marks.new }
 {
     let mut sum = tally;
     let mut at: usize = 2;
-    // By offset: each piece ends where `find` says.
     while at <= line.len() {
         let end = find(line, at, SPACE);
         sum = match read_number(&line[at..end])? {
@@ -88,9 +86,9 @@ fn read_values(marks: &mut [Mark], tally: Tally, line: &[u8]) -> Option<Tally>
 }
 
 // Notes a line.
-fn read_line(marks: &mut [Mark], tally: Tally, line: &[u8]) -> Option<Tally>
+fn read_line(marks: &mut [u8], tally: Tally, line: &[u8]) -> Option<Tally>
     requires { (0 < length marks.old) × (length line.now ≤ 65536) }
-    ensures { ReadLine (codes marks.old) tally line.now result (codes marks.new) }
+    ensures { ReadLine marks.old tally line.now result marks.new }
 {
     if line == b"s SATISFIABLE".as_slice() {
         return Some(Tally {
@@ -117,9 +115,9 @@ fn read_line(marks: &mut [Mark], tally: Tally, line: &[u8]) -> Option<Tally>
 }
 
 // Notes a text's lines.
-pub fn read_lines(marks: &mut [Mark], text: &[u8]) -> Option<Tally>
+pub fn read_lines(marks: &mut [u8], text: &[u8]) -> Option<Tally>
     requires { (0 < length marks.old) × (length text.now ≤ 65536) }
-    ensures { ReadLines (codes marks.old) text.now result (codes marks.new) }
+    ensures { ReadLines marks.old text.now result marks.new }
 {
     let mut sum = Tally {
         status: false,
@@ -130,7 +128,6 @@ pub fn read_lines(marks: &mut [Mark], text: &[u8]) -> Option<Tally>
         twice: false,
     };
     let mut at: usize = 0;
-    // By offset: each line ends where `find` says.
     while at < text.len() {
         let end = find(text, at, LINE_END);
         sum = read_line(marks, sum, &text[at..end])?;

@@ -8,7 +8,6 @@ use Rattle.model.specs.Word as word
 use Rattle.model.specs.Filling.{encode_filling}
 use Rattle.formula.specs.Assignment.{truth}
 use Rattle.formula.specs.Assignment as assignment
-use Rattle.tally.specs.Tally.{codes}
 use Rattle.calls.proofs.Decoded.{decoding-place, decoding-blank, decoding_fails, decoding_hands, spelled-sized}
 use Rattle.calls.proofs.Operations.{keeps_all, hands_values}
 use Rattle.fields.specs.Memory.{texts_of}
@@ -17,13 +16,13 @@ use Rattle.decoding.proofs.hand_over.Goals as goal
 pub returns-then-not-all_single : goal.returns-then-not-all_single
 returns-then-not-all_single c =
     let single = sym c.all_single.ensures ∙ c.if-not-all_single.true in
-    keeps_all 37 c.args.buf.now (decoding-place (sheet_of c.args.sheet.now) (truth (codes c.args.marks.now)) single)
+    keeps_all 37 c.args.buf.now (decoding-place (sheet_of c.args.sheet.now) (truth c.args.marks.now) single)
 
 pub returns-then-not-none_after_blank : goal.returns-then-not-none_after_blank
 returns-then-not-none_after_blank c =
     let ones = sym c.all_single.ensures ∙ c.if-not-all_single.false in
     let last = sym c.none_after_blank.ensures ∙ c.if-not-none_after_blank.true in
-    keeps_all 38 c.args.buf.now (decoding-blank (sheet_of c.args.sheet.now) (truth (codes c.args.marks.now)) ones last)
+    keeps_all 38 c.args.buf.now (decoding-blank (sheet_of c.args.sheet.now) (truth c.args.marks.now) ones last)
 
 pub returns-then-not-solves : goal.returns-then-not-solves
 returns-then-not-solves c =
@@ -31,12 +30,12 @@ returns-then-not-solves c =
     let ones = sym c.all_single.ensures ∙ c.if-not-all_single.false in
     let lasts = sym c.none_after_blank.ensures ∙ c.if-not-none_after_blank.false in
     let fails = ap (word.solves s) (sym c.spelled-g.ensures.1) ∙ sym c.solves.ensures ∙ c.if-not-solves.true in
-    keeps_all 39 c.args.buf.now (decoding_fails s (truth (codes c.args.marks.now)) ones lasts fails)
+    keeps_all 39 c.args.buf.now (decoding_fails s (truth c.args.marks.now) ones lasts fails)
 
 pub returns : goal.returns
 returns c =
     let s = sheet_of c.args.sheet.now in
-    let w = truth (codes c.args.marks.now) in
+    let w = truth c.args.marks.now in
     let buf = c.args.buf.now in
     let g = c.spelled-g.result in
     let means = c.spelled-g.ensures.1 in

@@ -1,5 +1,4 @@
 -- `places::all_single` meets its contract. Assumes nothing.
-use Rattle.tally.specs.Tally.{codes}
 use mathlib.Core.Path.{ap, ◌∙◌}
 use mathlib.Core.Bool.{Bool}
 use Prim.Native.Nat.{ℕ}
@@ -17,6 +16,6 @@ pub returns : goal.returns
 unfolding all_single
 returns c =
     let a = c.args in
-    let p : ℕ → Bool = λ f. all (λ k. eqb (length (true_values (sheet_of a.sheet.now) (truth (codes a.marks.now)) f k)) 1) (up_to (limit (sheet_of a.sheet.now) f)) in
+    let p : ℕ → Bool = λ f. all (λ k. eqb (length (true_values (sheet_of a.sheet.now) (truth a.marks.now) f k)) 1) (up_to (limit (sheet_of a.sheet.now) f)) in
     every_is p _ _ (λ t i l. let h = c.every.ensures.all t i l in search rules) (λ t. let k = c.every.ensures.fails t in (k.0, k.1, search rules))
     ∙ ap (λ n. all p (up_to n)) c.fields.ensures

@@ -1,5 +1,4 @@
 -- `places::blanks_last` meets its contract. The loop's invariant: what is asked of the places from c on, before a blank or after one, decides.
-use Rattle.tally.specs.Tally.{codes}
 use mathlib.Core.Path.{sym, ap, ap₂, ◌∙◌}
 use mathlib.Core.List.{map}
 use Prim.Native.Nat.{ℕ, ◌+◌}
@@ -22,7 +21,7 @@ limit-limit-requires c =
 pub loop-c-init : goal.loop-c-init
 loop-c-init c =
     let a = c.args in
-    sym (ahead_all c.letters-blank.result (held (sheet_of a.sheet.now) (truth (codes a.marks.now)) a.f) c.limit-limit.result)
+    sym (ahead_all c.letters-blank.result (held (sheet_of a.sheet.now) (truth a.marks.now) a.f) c.limit-limit.result)
 
 pub values-here-requires : goal.values-here-requires
 values-here-requires c =
@@ -32,7 +31,7 @@ pub returns-then-ended : goal.returns-then-ended
 returns-then-ended c =
     let l = c.loop-c in
     let a = c.args in
-    let h : ℕ → ℕ = held (sheet_of a.sheet.now) (truth (codes a.marks.now)) a.f in
+    let h : ℕ → ℕ = held (sheet_of a.sheet.now) (truth a.marks.now) a.f in
     let here = c.values-here.ensures.1 in
     let asks = ap₂ (λ b n. blanks_last b (map h (up_to n))) (sym c.letters-blank.ensures) (sym c.limit-limit.ensures.0) in
     let b = c.letters-blank.result in
@@ -44,7 +43,7 @@ pub loop-c-preserved : goal.loop-c-preserved
 loop-c-preserved c =
     let l = c.loop-c in
     let a = c.args in
-    let h : ℕ → ℕ = held (sheet_of a.sheet.now) (truth (codes a.marks.now)) a.f in
+    let h : ℕ → ℕ = held (sheet_of a.sheet.now) (truth a.marks.now) a.f in
     let here = c.values-here.ensures.1 in
     let inside = c.loop-c-test.true in
     let b = c.letters-blank.result in
@@ -65,6 +64,6 @@ pub returns : goal.returns
 returns c =
     let l = c.loop-c in
     let a = c.args in
-    let h : ℕ → ℕ = held (sheet_of a.sheet.now) (truth (codes a.marks.now)) a.f in
+    let h : ℕ → ℕ = held (sheet_of a.sheet.now) (truth a.marks.now) a.f in
     let asks = ap₂ (λ b n. blanks_last b (map h (up_to n))) (sym c.letters-blank.ensures) (sym c.limit-limit.ensures.0) in
     sym (asks ∙ l.invariant ∙ ahead_over c.letters-blank.result h c.limit-limit.result l.ended l.c c.loop-c-test.false)

@@ -1,4 +1,3 @@
-use Rattle.tally.specs.Tally.{codes}
 use mathlib.Core.Path.{◌≡◌}
 use mathlib.Core.List.{map}
 use Rattle.model.specs.Lists.{up_to}
@@ -10,4 +9,4 @@ use Rattle.places.proofs.blanks_last.Given as goal
 
 abbrev pub invariant-loop-c : goal.invariant-loop-c
 invariant-loop-c l =
-    blanks_last l.blank (map (held (sheet_of l.sheet) (truth (codes l.marks)) l.f) (up_to l.limit)) ≡ ahead l.blank (held (sheet_of l.sheet) (truth (codes l.marks)) l.f) l.limit l.ended l.c
+    blanks_last l.blank (map (held (sheet_of l.sheet) (truth l.marks) l.f) (up_to l.limit)) ≡ ahead l.blank (held (sheet_of l.sheet) (truth l.marks) l.f) l.limit l.ended l.c

@@ -1,5 +1,4 @@
 -- `places::field_text` meets its contract. The loop's invariant: the places passed hold letters, and these have been stored. Assumes nothing.
-use Rattle.tally.specs.Tally.{codes}
 use mathlib.Core.Path.{◌≡◌, refl, sym, ap, ◌∙◌}
 use mathlib.Core.List.{map}
 use Prim.Native.Nat.{ℕ}
@@ -35,7 +34,7 @@ pub returns-then-here-blank : goal.returns-then-here-blank
 returns-then-here-blank c =
     let l = c.loop-c in
     let a = c.args in
-    let h : ℕ → ℕ = held (sheet_of a.sheet.now) (truth (codes a.marks.now)) a.f in
+    let h : ℕ → ℕ = held (sheet_of a.sheet.now) (truth a.marks.now) a.f in
     let letters = c.letters-blank.ensures in
     field-holds (map h (up_to l.c)) _ l.c l.letters l.invariant.0 (length-map-from h 0 l.c) (omega (arith, c.limit-limit.ensures.1))
     (text_stop _ h _ l.c (omega (arith, c.limit-limit.ensures.0)) (λ k i e. l.invariant.1 k i (e ∙ sym letters))
@@ -52,7 +51,7 @@ pub loop-c-preserved : goal.loop-c-preserved
 loop-c-preserved c =
     let l = c.loop-c in
     let a = c.args in
-    let h : ℕ → ℕ = held (sheet_of a.sheet.now) (truth (codes a.marks.now)) a.f in
+    let h : ℕ → ℕ = held (sheet_of a.sheet.now) (truth a.marks.now) a.f in
     let here = c.values-here.ensures.1 in (
       store_more h l.c c.values-here.result.least l.letters l.invariant.0 (omega (arith, c.limit-limit.ensures.1)) here,
       below_more _ l.c l.invariant.1 (λ e. c.if-here-blank.false (here ∙ e)),
@@ -65,7 +64,7 @@ pub returns : goal.returns
 returns c =
     let l = c.loop-c in
     let a = c.args in
-    let h : ℕ → ℕ = held (sheet_of a.sheet.now) (truth (codes a.marks.now)) a.f in
+    let h : ℕ → ℕ = held (sheet_of a.sheet.now) (truth a.marks.now) a.f in
     let letters = c.letters-blank.ensures in
     let n : l.c ≡ c.limit-limit.result = omega arith in
     rw n at (field-holds (map h (up_to l.c)) _ l.c l.letters l.invariant.0 (length-map-from h 0 l.c) (omega (arith, c.limit-limit.ensures.1))

@@ -1,4 +1,3 @@
-use Rattle.tally.specs.Tally.{codes}
 use mathlib.Core.Path.{◌≡◌}
 use mathlib.Core.List.{◌++◌, map}
 use Prim.Native.Nat.{ℕ, ◌<◌}
@@ -10,5 +9,5 @@ use Rattle.places.proofs.field_text.Given as goal
 
 abbrev pub invariant-loop-c : goal.invariant-loop-c
 invariant-loop-c l =
-    (l.letters ≡ map (held (sheet_of l.sheet) (truth (codes l.marks)) l.f) (up_to l.c) ++ drop l.c l.initial.letters)
-    × ((k : ℕ) → k < l.c → held (sheet_of l.sheet) (truth (codes l.marks)) l.f k ≡ l.blank → ⊥)
+    (l.letters ≡ map (held (sheet_of l.sheet) (truth l.marks) l.f) (up_to l.c) ++ drop l.c l.initial.letters)
+    × ((k : ℕ) → k < l.c → held (sheet_of l.sheet) (truth l.marks) l.f k ≡ l.blank → ⊥)

@@ -1,5 +1,4 @@
 -- `places::single` meets its contract. Assumes nothing.
-use Rattle.tally.specs.Tally.{codes}
 use mathlib.Core.Path.{ap, ◌∙◌}
 use mathlib.Core.Bool.{Bool}
 use Prim.Native.Nat.{ℕ}
@@ -15,6 +14,6 @@ use Rattle.places.proofs.single.Goals as goal
 pub returns : goal.returns
 returns c =
     let a = c.args in
-    let p : ℕ → Bool = λ k. eqb (length (true_values (sheet_of a.sheet.now) (truth (codes a.marks.now)) a.f k)) 1 in
+    let p : ℕ → Bool = λ k. eqb (length (true_values (sheet_of a.sheet.now) (truth a.marks.now) a.f k)) 1 in
     every_is p _ _ (λ t i l. let h = c.every.ensures.all t i l in search rules) (λ t. let k = c.every.ensures.fails t in (k.0, k.1, search rules))
     ∙ ap (λ n. all p (up_to n)) c.limit.ensures.0

@@ -1,5 +1,4 @@
 -- `places::spelled` meets its contract. The loop's invariant: the fields passed hold what the marks spell, and all are whole. Assumes nothing.
-use Rattle.tally.specs.Tally.{codes}
 use Prim.Native.Nat.{◌<◌}
 use native.Mathlib.Omega.{arith}
 use Rattle.model.specs.Sheet.{sheet_of}
@@ -17,7 +16,7 @@ fields-fields-requires c = c.requires.0
 pub loop-f-init : goal.loop-f-init
 loop-f-init c =
     let a = c.args in
-    filled_start (text_at (sheet_of a.sheet.now) (truth (codes a.marks.now)))
+    filled_start (text_at (sheet_of a.sheet.now) (truth a.marks.now))
 
 pub field_text-requires : goal.field_text-requires
 field_text-requires c =
@@ -39,10 +38,10 @@ loop-f-preserved c =
     let a = c.args in
     let l = c.loop-f in
     let this = c.field_text.ensures in
-    filled_more (text_at (sheet_of a.sheet.now) (truth (codes a.marks.now))) l.f l.g c.field_text.result l.invariant (few c.before) this.0 this.1
+    filled_more (text_at (sheet_of a.sheet.now) (truth a.marks.now)) l.f l.g c.field_text.result l.invariant (few c.before) this.0 this.1
 
 pub returns : goal.returns
 returns c =
     let a = c.args in
     let l = c.loop-f in
-    filled_held a.sheet.now (truth (codes a.marks.now)) l.f l.g c.requires.0 (omega (arith, c.fields-fields.ensures)) l.invariant
+    filled_held a.sheet.now (truth a.marks.now) l.f l.g c.requires.0 (omega (arith, c.fields-fields.ensures)) l.invariant

@@ -1,9 +1,5 @@
 -- `places::values` meets its contract. The loop runs down: the values from a on have been counted, and the least of them noted. Assumes nothing.
-use Rattle.tally.specs.Tally.{codes}
-use mathlib.Core.Path.{sym, ◌∙◌}
-use Prim.Native.Nat.{◌+◌, ◌-◌}
-use borrow.Author.Tests.{eqb-true, eqb-false}
-use Rattle.tally.proofs.Marks.{length-codes, plus_at}
+use Prim.Native.Nat.{◌-◌}
 use native.Mathlib.Omega.{arith}
 use Rattle.model.specs.Sheet.{sheet_of}
 use Rattle.formula.proofs.Small.{letters-few}
@@ -25,23 +21,23 @@ overflow_step-a c =
 pub loop-a-init : goal.loop-a-init
 loop-a-init c =
     let a = c.args in
-    counted_start (is_true (sheet_of a.sheet.now) (codes a.marks.now) a.f a.c) c.letters-blank.result
+    counted_start (is_true (sheet_of a.sheet.now) a.marks.now a.f a.c) c.letters-blank.result
 
 pub bounds-marks-first : goal.bounds-marks-first
 bounds-marks-first c =
     let at-loop = c.loop-a in
     let a = c.args in
-    rw (← length-codes a.marks.now) (in_marks (sheet_of a.sheet.now) (codes a.marks.now) a.f a.c c.place_number-first.result (at-loop.a - 1) c.place_number-first.ensures.0
-    (length-codes a.marks.now ∙ c.requires.0.1) c.requires.1 c.requires.2 (omega (arith, c.letters-blank.ensures, at-loop.invariant.inside)))
+    in_marks (sheet_of a.sheet.now) a.marks.now a.f a.c c.place_number-first.result (at-loop.a - 1) c.place_number-first.ensures.0
+    c.requires.0.1 c.requires.1 c.requires.2 (omega (arith, c.letters-blank.ensures, at-loop.invariant.inside))
 
-pub loop-a-preserved-then-eq : goal.loop-a-preserved-then-eq
-loop-a-preserved-then-eq c =
+pub loop-a-preserved-then-marks-first-eq-PLUS : goal.loop-a-preserved-then-marks-first-eq-PLUS
+loop-a-preserved-then-marks-first-eq-PLUS c =
     let l = c.loop-a in
     let a = c.args in
     let s = sheet_of a.sheet.now in
     let n = c.place_number-first in
-    counted-yes (is_true s (codes a.marks.now) a.f a.c) c.letters-blank.result l.a l.count l.least l.invariant c.loop-a-test.true
-    (is_true_lem s (codes a.marks.now) a.f a.c n.result (l.a - 1) n.ensures.0 (eqb-true _ 1 (sym (plus_at a.marks.now (n.result + (l.a - 1))) ∙ sym c.eq.ensures ∙ c.if-eq.true)))
+    counted-yes (is_true s a.marks.now a.f a.c) c.letters-blank.result l.a l.count l.least l.invariant c.loop-a-test.true
+    (is_true_lem s a.marks.now a.f a.c n.result (l.a - 1) n.ensures.0 c.if-marks-first-eq-PLUS.true)
 
 pub loop-a-preserved : goal.loop-a-preserved
 loop-a-preserved c =
@@ -49,12 +45,12 @@ loop-a-preserved c =
     let a = c.args in
     let s = sheet_of a.sheet.now in
     let n = c.place_number-first in
-    counted-no (is_true s (codes a.marks.now) a.f a.c) c.letters-blank.result l.a l.count l.least l.invariant c.loop-a-test.true
-    (is_false s (codes a.marks.now) a.f a.c n.result (l.a - 1) n.ensures.0 (eqb-false _ 1 (sym (plus_at a.marks.now (n.result + (l.a - 1))) ∙ sym c.eq.ensures ∙ c.if-eq.false)))
+    counted-no (is_true s a.marks.now a.f a.c) c.letters-blank.result l.a l.count l.least l.invariant c.loop-a-test.true
+    (is_false s a.marks.now a.f a.c n.result (l.a - 1) n.ensures.0 c.if-marks-first-eq-PLUS.false)
 
 pub returns : goal.returns
 returns c =
     let l = c.loop-a in
     let a = c.args in
     let b = c.letters-blank in
-    counted-all (sheet_of a.sheet.now) (codes a.marks.now) a.f a.c b.result l.a l.count l.least b.ensures (omega arith) l.invariant
+    counted-all (sheet_of a.sheet.now) a.marks.now a.f a.c b.result l.a l.count l.least b.ensures (omega arith) l.invariant

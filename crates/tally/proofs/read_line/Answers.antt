@@ -10,7 +10,6 @@ use lib.Pointwise.{pointwise}
 use borrow.Author.Tests.{eqb-true, eqb-false}
 use Rattle.model.specs.Lists.{same}
 use Rattle.scan.proofs.Words.{same-slices}
-use Rattle.tally.specs.Tally.{codes}
 use Rattle.tally.proofs.Texts.{line_empty, line_status, line-comment, line_other, line-values}
 use Rattle.tally.proofs.read_line.Goals as goal
 
@@ -22,7 +21,7 @@ pub returns-then-eq : goal.returns-then-eq
 returns-then-eq c =
     let a = c.args in
     let status = compared _ _ _ _ c.eq.ensures c.as_slice.ensures ∙ c.if-eq.true in
-    line_status (codes a.marks.now) a.tally a.line.now status _ refl
+    line_status a.marks.now a.tally a.line.now status _ refl
 
 pub returns-then-is_empty : goal.returns-then-is_empty
 returns-then-is_empty c = line_empty c.args.line.now (eqb-true _ 0 (sym c.if-is_empty.ensures))
@@ -31,7 +30,7 @@ pub returns-then-line-eq99 : goal.returns-then-line-eq99
 returns-then-line-eq99 c =
     let a = c.args in
     let status = compared _ _ _ _ c.eq.ensures c.as_slice.ensures ∙ c.if-eq.false in
-    line-comment (codes a.marks.now) a.tally a.line.now status (omega (arith, eqb-false _ 0 (sym c.if-is_empty.ensures))) c.if-line-eq99.true
+    line-comment a.marks.now a.tally a.line.now status (omega (arith, eqb-false _ 0 (sym c.if-is_empty.ensures))) c.if-line-eq99.true
 
 pub returns-then-line-ne118 : goal.returns-then-line-ne118
 returns-then-line-ne118 c =
@@ -47,5 +46,5 @@ returns c =
     let at-find = c.find-first in
     let a = c.args in
     let status = compared _ _ _ _ c.eq.ensures c.as_slice.ensures ∙ c.if-eq.false in
-    line-values (codes a.marks.now) a.tally a.line.now status (omega (arith, eqb-false _ 0 (sym c.if-is_empty.ensures))) c.if-line-ne118.false at-find.result at-find.ensures.0 c.if-first-ne1.false
-    _ refl at-values.result (codes at-values.new.marks) at-values.ensures
+    line-values a.marks.now a.tally a.line.now status (omega (arith, eqb-false _ 0 (sym c.if-is_empty.ensures))) c.if-line-ne118.false at-find.result at-find.ensures.0 c.if-first-ne1.false
+    _ refl at-values.result at-values.new.marks at-values.ensures

@@ -1,13 +1,11 @@
 -- `tally::read_values` meets its contract. The loop's invariant: what is left of the line decides what all of it does, with the tally and the
 -- marks that the numbers before have come to. Assumes nothing.
-use mathlib.Core.Path.{sym, ap, subst, ◌∙◌}
+use mathlib.Core.Path.{ap, subst, ◌∙◌}
 use Prim.Native.Nat.{◌-◌}
 use native.Mathlib.Omega.{arith}
 use lib.ListN.{take, drop}
 use Rattle.std.specs.Prelude.{Some}
 use Rattle.numerals.specs.Said.{Said}
-use Rattle.tally.specs.Tally.{codes}
-use Rattle.tally.proofs.Marks.{length-codes}
 use Rattle.tally.proofs.Pieces.{noted-none, noted-all, noted-unknown, noted_plus, noted_minus, piece_at}
 use Rattle.tally.proofs.read_values.Goals as goal
 use Rattle.tally.proofs.read_values.Goals.{in-Plus, in-Minus}
@@ -23,18 +21,16 @@ returns-in_err-n c =
     let line = a.line.now in
     let piece = take (at-find.result - at-loop.at) (drop at-loop.at line) in
     let said = subst (Said piece) (c.in_err-n.was {u = tt}) c.read_number.ensures in
-    rw c.from_residual.ensures (noted-unknown (codes a.marks.now) a.tally line at-loop.at (codes at-loop.marks) at-loop.sum at-loop.invariant at-find.result
+    rw c.from_residual.ensures (noted-unknown a.marks.now a.tally line at-loop.at at-loop.marks at-loop.sum at-loop.invariant at-find.result
     (piece_at line at-loop.at at-find.result (omega arith) at-find.ensures.0) said)
 
 pub note-sum-requires : goal.note-sum-requires
 note-sum-requires c =
-    let l = c.loop-at.invariant.long in
-    omega (arith, length-codes c.loop-at.marks, length-codes c.args.marks.now)
+    omega arith
 
 pub note-sum-requires-in-Minus : goal.note-sum-requires-in-Minus
 note-sum-requires-in-Minus c =
-    let l = c.loop-at.invariant.long in
-    omega (arith, length-codes c.loop-at.marks, length-codes c.args.marks.now)
+    omega arith
 
 pub loop-at-preserved : goal.loop-at-preserved
 loop-at-preserved c =
@@ -47,20 +43,20 @@ loop-at-preserved c =
     let said = c.read_number.ensures in
     elim c.match-branch-2.branch [
       | in-Plus w ↦
-          noted_plus (codes a.marks.now) a.tally line at-loop.at (codes at-loop.marks) at-loop.sum at-loop.invariant at-find.result there w.in-Plus.n
+          noted_plus a.marks.now a.tally line at-loop.at at-loop.marks at-loop.sum at-loop.invariant at-find.result there w.in-Plus.n
           (subst (Said piece) (c.in_ok-n.was {u = tt} ∙ ap Some w.in-Plus.is) said)
-          (codes c.match-branch-2.marks) c.match-branch-2.sum (w.sum-is ∙ w.note-sum.ensures.0) (ap codes w.marks-is ∙ w.note-sum.ensures.1)
+          c.match-branch-2.marks c.match-branch-2.sum (w.sum-is ∙ w.note-sum.ensures.0) (w.marks-is ∙ w.note-sum.ensures.1)
       | in-Minus w ↦
-          noted_minus (codes a.marks.now) a.tally line at-loop.at (codes at-loop.marks) at-loop.sum at-loop.invariant at-find.result there w.in-Minus.n
+          noted_minus a.marks.now a.tally line at-loop.at at-loop.marks at-loop.sum at-loop.invariant at-find.result there w.in-Minus.n
           (subst (Said piece) (c.in_ok-n.was {u = tt} ∙ ap Some w.in-Minus.is) said)
-          (codes c.match-branch-2.marks) c.match-branch-2.sum (w.sum-is ∙ w.note-sum-in-Minus.ensures.0) (ap codes w.marks-is ∙ w.note-sum-in-Minus.ensures.1)
+          c.match-branch-2.marks c.match-branch-2.sum (w.sum-is ∙ w.note-sum-in-Minus.ensures.0) (w.marks-is ∙ w.note-sum-in-Minus.ensures.1)
     ]
 
 pub shape_of-marks : goal.shape_of-marks
-shape_of-marks c = sym (length-codes _) ∙ c.loop-at.invariant.long ∙ length-codes _
+shape_of-marks c = c.loop-at.invariant.long
 
 pub returns : goal.returns
 returns c =
     let a = c.args in
     let l = c.loop-at in
-    noted-all (codes a.marks.now) a.tally a.line.now l.at (codes l.marks) l.sum l.invariant c.loop-at-test.false
+    noted-all a.marks.now a.tally a.line.now l.at l.marks l.sum l.invariant c.loop-at-test.false
