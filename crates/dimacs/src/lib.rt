@@ -40,7 +40,7 @@ fn few_figures(buf: &mut [u8], at: usize, n: usize) -> usize
     figure(buf, c, n % 10)
 }
 
-// A number in decimal, at an offset of the buffer. Returns the offset past it.
+// A number in decimal, at an offset of the buffer. Returns the offset past it. It calls itself, since the figures before the last stand before it.
 pub fn print(buf: &mut [u8], at: usize, n: usize) -> usize
     requires { at + length (decimal n) ≤ length buf.old }
     ensures { Puts buf.old at (decimal n) buf.new result }

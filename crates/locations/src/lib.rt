@@ -47,7 +47,7 @@ fn put_row(buf: &mut [u8], at: usize, row: Row, here: usize, left: Cell) -> usiz
     past
 }
 
-// The codes of value 0 of the places on one side of equation p, and 0 for its letters and past them.
+// The codes of value 0 of the places on one side of equation p, and 0 for its letters and past them. The loop goes by index, since a code is asked for by its index.
 pub fn cell_codes(sheet: &[u8], p: usize, side: usize) -> [usize; ROOM]
     requires { Admitted sheet.now × (p < length (sheet_of sheet.now).equations) }
     ensures { result ≡ map (λ i. cell_code (sheet_of sheet.now) (cells (sheet_of sheet.now) (template (sheet_of sheet.now) p side)) i 0 0) (up_to 25) }

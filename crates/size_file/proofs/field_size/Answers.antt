@@ -8,19 +8,9 @@ use Rattle.rendering.specs.Lines.{place_lines, field_lines}
 use Rattle.model.proofs.Keeping.{length_none, length_more}
 use Rattle.size_file.proofs.field_size.Goals as goal
 
-pub limit-limit-requires : goal.limit-limit-requires
-limit-limit-requires c = c.requires
-
 pub loop-c-init : goal.loop-c-init
 loop-c-init c =
     (sym (length_none (place_lines (sheet_of c.args.sheet.now) c.args.f)), omega arith)
-
-pub place_size-sum-requires : goal.place_size-sum-requires
-place_size-sum-requires c =
-    (c.requires.0, (c.requires.1, omega (arith, c.loop-c-test.true, c.limit-limit.ensures.0)))
-
-pub overflow_add-sum : goal.overflow_add-sum
-overflow_add-sum c = omega (arith, c.loop-c.invariant, c.place_size-sum.ensures.1, c.limit-limit.ensures.1)
 
 pub loop-c-preserved : goal.loop-c-preserved
 loop-c-preserved c =

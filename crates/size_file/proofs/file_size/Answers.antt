@@ -13,15 +13,6 @@ problem_size-first-requires c =
     let ok = c.requires.0.1 in
     (omega (arith, c.requires.1, variables-small s ok), omega (arith, c.requires.2, clause_count_lem s (well_formed s ok), clauses_small s ok))
 
-pub section_size-fields-requires : goal.section_size-fields-requires
-section_size-fields-requires c = c.requires.0
-
-pub section_size-equations-requires : goal.section_size-equations-requires
-section_size-equations-requires c = c.requires.0
-
-pub section_size-constraints-requires : goal.section_size-constraints-requires
-section_size-constraints-requires c = c.requires.0
-
 pub returns : goal.returns
 returns c =
     let third = c.before.before in

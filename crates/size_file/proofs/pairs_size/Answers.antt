@@ -18,20 +18,6 @@ lines start = pair_lines start.args.first start.args.letters
 pub loop-a-init : goal.loop-a-init
 loop-a-init c = (sym (length_none (lines c)), omega arith)
 
-pub overflow_mul-a : goal.overflow_mul-a
-overflow_mul-a c = omega (arith, c.loop-a-test.true, c.requires.1)
-
-pub overflow_add-first : goal.overflow_add-first
-overflow_add-first c = omega (arith, c.loop-a-test.true, c.requires)
-
-pub unlike_size-sum-requires : goal.unlike_size-sum-requires
-unlike_size-sum-requires c =
-    let p = c.requires in
-    (omega (arith, p), omega (arith, p), omega (arith, p))
-
-pub overflow_add-sum : goal.overflow_add-sum
-overflow_add-sum c = omega (arith, c.loop-a.invariant, c.unlike_size-sum.ensures.1, c.loop-a-test.true, c.requires)
-
 pub loop-a-preserved : goal.loop-a-preserved
 loop-a-preserved c =
     let l = c.loop-a in

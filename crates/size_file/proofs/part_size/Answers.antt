@@ -1,10 +1,9 @@
 -- `size_file::part_size` meets its contract, by its section. Assumes nothing.
-use mathlib.Core.Path.{◌≡◌, sym, ap, subst, ◌∙◌}
-use Prim.Native.Nat.{ℕ, ◌<◌}
+use mathlib.Core.Path.{◌≡◌, sym, ap, ◌∙◌}
+use Prim.Native.Nat.{ℕ}
 use native.Mathlib.Omega.{arith}
 use lib.ListN.{length}
 use Rattle.model.specs.Sheet.{sheet_of}
-use Rattle.formula.specs.Count.{parts}
 use Rattle.shape.specs.declared.Section.{Section}
 use Rattle.shape.specs.Name.{section_of}
 use Rattle.rendering.specs.Lines.{part_lines}
@@ -15,23 +14,8 @@ use Rattle.size_file.proofs.part_size.Tie as tie
 
 -- the part is one of the section that the match has met, and its lines are those that are measured
 module _ (start : lts.Start tie.the-claims reads.Pre reads.Post) (x : Section) (met : start.args.section ≡ x) where
-  inside : start.args.i < parts (sheet_of start.args.sheet.now) (section_of x)
-  inside = subst (λ y. start.args.i < parts (sheet_of start.args.sheet.now) (section_of y)) met start.requires.1
-
   measured : (n : ℕ) → n ≡ length (part_lines (sheet_of start.args.sheet.now) (section_of x) start.args.i) → n ≡ length (part_lines (sheet_of start.args.sheet.now) (section_of start.args.section) start.args.i)
   measured n e = e ∙ ap (λ y. length (part_lines (sheet_of start.args.sheet.now) (section_of y) start.args.i)) (sym met)
-
-pub field_size-requires : goal.field_size-requires
-field_size-requires c =
-    (c.requires.0, inside c.before.before.before _ c.in-Fields.is)
-
-pub equation_size-requires : goal.equation_size-requires
-equation_size-requires c =
-    (c.requires.0, inside c.before.before.before _ c.in-Equations.is)
-
-pub constraint_size-requires : goal.constraint_size-requires
-constraint_size-requires c =
-    (c.requires.0, omega (arith, inside c.before.before.before _ c.in-Constraints.is))
 
 pub returns-in-Fields : goal.returns-in-Fields
 returns-in-Fields c = (measured c.before.before.before.before _ c.in-Fields.is c.field_size.result c.field_size.ensures.0, c.field_size.ensures.1)

@@ -17,16 +17,6 @@ use Rattle.size_file.proofs.place_size.Tie as tie
 abbrev s : lts.Start tie.the-claims reads.Pre reads.Post → Sheet
 s start = sheet_of start.args.sheet.now
 
-pub letters-letters-requires : goal.letters-letters-requires
-letters-letters-requires c = c.requires.0
-
-pub place_number-first-requires : goal.place_number-first-requires
-place_number-first-requires c =
-    (c.requires.0, (c.requires.1, omega arith))
-
-pub overflow_mul-first : goal.overflow_mul-first
-overflow_mul-first c = omega (arith, c.place_number-first.ensures.1)
-
 -- the letters, and the code of value 0
 module _ (c : lts.After-place_number tie.the-claims reads.Pre reads.Post) where
   abbrev start_of : lts.Start tie.the-claims reads.Pre reads.Post
@@ -44,30 +34,13 @@ module _ (c : lts.After-place_number tie.the-claims reads.Pre reads.Post) where
   some : 0 < 2 * c.place_number-first.result
   some = omega (arith, first_is, positive (s start_of) (K start_of.args.f start_of.args.c 0))
 
-pub overflow_add-letters : goal.overflow_add-letters
-overflow_add-letters c = omega (arith, few c.before)
-
 pub literals_size-requires : goal.literals_size-requires
 literals_size-requires c = (some c.before, omega (arith, few c.before, c.place_number-first.ensures.1))
-
-pub overflow_add-values : goal.overflow_add-values
-overflow_add-values c = omega (arith, few c.before.before, c.literals_size.ensures.1)
-
-pub pairs_size-requires : goal.pairs_size-requires
-pairs_size-requires c = (omega (arith, c.place_number-first.ensures.1), few c.before.before)
-
-pub overflow_add-values-2 : goal.overflow_add-values-2
-overflow_add-values-2 c = omega (arith, few c.before.before.before, c.literals_size.ensures.1, c.pairs_size.ensures.1)
 
 pub overflow_add-c : goal.overflow_add-c
 overflow_add-c c =
     let start = start_of c.before.before.before in
     omega (arith, start.requires.1.1, limit-small (s start) start.requires.0.1 start.args.f)
-
-pub limit-requires : goal.limit-requires
-limit-requires c =
-    let start = start_of c.before.before.before in
-    (start.requires.0, start.requires.1.0)
 
 abbrev facts-of : lts.After-limit tie.the-claims reads.Pre reads.Post → lts.After-place_number tie.the-claims reads.Pre reads.Post
 facts-of c = c.before.before.before
@@ -76,28 +49,11 @@ facts-of c = c.before.before.before
 inside : (c : lts.Then1 tie.the-claims reads.Pre reads.Post) → suc (start_of (facts-of c.before)).args.c < limit (s (start_of (facts-of c.before))) (start_of (facts-of c.before)).args.f
 inside c = omega (arith, c.if-c-limit.true, c.limit.ensures.0)
 
-pub place_code-requires : goal.place_code-requires
-place_code-requires c =
-    let facts = facts-of c.before.before in
-    let start = start_of facts in
-    (start.requires.0, (start.requires.1, omega (arith, facts.before.letters-letters.ensures)))
-
 pub literal_size-here-requires : goal.literal_size-here-requires
 literal_size-here-requires c =
     let facts = facts-of c.before.before.before in
     let start = start_of facts in
     omega (arith, c.place_code.ensures, number_small (s start) (K start.args.f start.args.c (letters facts)) (start.requires.1, omega (arith, facts.before.letters-letters.ensures)), variables-small (s start) start.requires.0.1)
-
-pub overflow_add-c-then-c-limit : goal.overflow_add-c-then-c-limit
-overflow_add-c-then-c-limit c =
-    let start = start_of (facts-of c.before.before.before.before) in
-    omega (arith, start.requires.1.1, limit-small (s start) start.requires.0.1 start.args.f)
-
-pub place_code-requires-then-c-limit : goal.place_code-requires-then-c-limit
-place_code-requires-then-c-limit c =
-    let facts = facts-of c.before.before.before.before in
-    let start = start_of facts in
-    (start.requires.0, ((start.requires.1.0, omega (arith, inside c.before.before.before)), omega (arith, facts.before.letters-letters.ensures)))
 
 pub literal_size-next-requires : goal.literal_size-next-requires
 literal_size-next-requires c =
@@ -110,15 +66,6 @@ sizes : (c : lts.After-literal_size2 tie.the-claims reads.Pre reads.Post)
     → (c.literals_size.result ≤ 63) × (c.pairs_size.result ≤ 1200) × (c.literal_size-here.result ≤ 7) × (c.literal_size-next.result ≤ 7)
 sizes c =
     (omega (arith, few c.before.before.before.before.before.before.before.before, c.literals_size.ensures.1), c.pairs_size.ensures.1, c.literal_size-here.ensures.1, c.literal_size-next.ensures.1)
-
-pub overflow_add-result : goal.overflow_add-result
-overflow_add-result c = omega (arith, sizes c.before)
-
-pub overflow_add-result-then-c-limit : goal.overflow_add-result-then-c-limit
-overflow_add-result-then-c-limit c = omega (arith, sizes c.before)
-
-pub overflow_add-result-then-c-limit-2 : goal.overflow_add-result-then-c-limit-2
-overflow_add-result-then-c-limit-2 c = omega (arith, sizes c.before)
 
 pub returns-then-c-limit : goal.returns-then-c-limit
 returns-then-c-limit c =

@@ -10,19 +10,9 @@ use Rattle.rendering.specs.Lines.{part_lines, section_lines}
 use Rattle.model.proofs.Keeping.{length_none, length_more}
 use Rattle.size_file.proofs.section_size.Goals as goal
 
-pub parts-parts-requires : goal.parts-parts-requires
-parts-parts-requires c = c.requires
-
 pub loop-i-init : goal.loop-i-init
 loop-i-init c =
     (sym (length_none (part_lines (sheet_of c.args.sheet.now) (section_of c.args.section))), omega arith)
-
-pub part_size-sum-requires : goal.part_size-sum-requires
-part_size-sum-requires c =
-    (c.requires, omega (arith, c.loop-i-test.true, c.parts-parts.ensures.0))
-
-pub overflow_add-sum : goal.overflow_add-sum
-overflow_add-sum c = omega (arith, c.loop-i.invariant, c.part_size-sum.ensures.1, c.parts-parts.ensures.1)
 
 pub loop-i-preserved : goal.loop-i-preserved
 loop-i-preserved c =

@@ -7,31 +7,11 @@ use Rattle.formula.specs.Clause.{K, blank}
 use Rattle.formula.specs.Numbering.{number}
 use Rattle.sums.proofs.first_blank.Goals as goal
 
-pub limit-requires : goal.limit-requires
-limit-requires c =
-    (c.requires.0, c.requires.1)
-
 pub returns-then-limit-eq0 : goal.returns-then-limit-eq0
 returns-then-limit-eq0 c =
     let at-if1 = c.if-limit-eq0 in
     let at-limit = c.limit in
     ((λ h. absurd (omega (arith, at-if1.true, at-limit.ensures.0))), omega arith)
-
-pub letters-requires : goal.letters-requires
-letters-requires c =
-    c.requires.0
-
-pub place_number-requires : goal.place_number-requires
-place_number-requires c =
-    let at-if1 = c.if-limit-eq0 in
-    let at-limit = c.limit in
-    let at-letters = c.letters in
-    (c.requires.0, ((c.requires.1, omega (arith, at-if1.false, at-limit.ensures.0)), omega (arith, at-letters.ensures)))
-
-pub overflow_mul-result : goal.overflow_mul-result
-overflow_mul-result c =
-    let place-number = c.place_number in
-    omega (arith, place-number.ensures.1)
 
 pub returns : goal.returns
 returns c =

@@ -13,7 +13,7 @@ use Rattle.model.proofs.Pieces.{loop_none, loop_room, loop_next, loop_done}
 use Rattle.formula.proofs.Totals.{within_le}
 use Rattle.dimacs.specs.Codes.{codes_line, most_code, large_code}
 use Rattle.sums.specs.Lines.{bound_line, bound_lines}
-use Rattle.sums.proofs.Summed.{bound_codes, low_in, low_code}
+use Rattle.sums.proofs.Summed.{bound_codes, low_code}
 use Rattle.sums.proofs.put_bounds.Goals as goal
 use Rattle.sums.proofs.put_bounds.Lts as lts
 use Rattle.sums.proofs.put_bounds.Reads as reads
@@ -36,29 +36,6 @@ module _ (start : lts.Start tie.the-claims reads.Pre reads.Post goal.the-invaria
   room : start.args.at + length (each (up_to count) lines) ≤ length start.args.buf.now
   unfolding bound_lines
   room = start.requires.2
-
-pub fields-fields-requires : goal.fields-fields-requires
-fields-fields-requires c = c.requires.0
-
-pub least-requires : goal.least-requires
-least-requires c =
-    (c.requires.0, c.requires.1, omega (arith, c.fields-fields.ensures))
-
-pub sum_code-first-requires : goal.sum_code-first-requires
-sum_code-first-requires c =
-    let at_fields = c.fields-fields in
-    (c.requires.0, low_in (s c.before.before.before.before.before) c.requires.0.1 c.args.r c.requires.1 at_fields.result (omega (arith, at_fields.ensures)) c.least.result c.least.ensures)
-
-pub within-within-requires : goal.within-within-requires
-within-within-requires c =
-    (c.requires.0, c.requires.1)
-
-pub spread-requires : goal.spread-requires
-spread-requires c =
-    (c.requires.0, c.requires.1, omega (arith, c.fields-fields.ensures))
-
-pub overflow_add-over : goal.overflow_add-over
-overflow_add-over c = omega (arith, c.spread.ensures.1)
 
 -- what is known before the loop: the sums, and the code of the least
 module _ (c : lts.After-spread tie.the-claims reads.Pre reads.Post goal.the-invariant-loop-n goal.the-decreases-loop-n) where
@@ -103,17 +80,11 @@ module _ (c : lts.In-loop tie.the-claims reads.Pre reads.Post goal.the-invariant
   line-is : lines (start_of known) c.loop-n.n ≡ codes_line (code ∷ [])
   line-is = bound_codes (s (start_of known)) (start_of known).args.r (first known + 2 * known.within-within.result + 1) c.loop-n.n (omega (arith, (least-code known).0, known.within-within.ensures.0))
 
-pub overflow_mul-within : goal.overflow_mul-within
-overflow_mul-within c = omega (arith, codes-few c.before.before)
-
 pub overflow_add-first : goal.overflow_add-first
 overflow_add-first c = omega (arith, codes-few c.before.before)
 
 pub overflow_add-first-in-loop-n : goal.overflow_add-first-in-loop-n
 overflow_add-first-in-loop-n c = omega (arith, codes-few c.before.before)
-
-pub overflow_mul-n : goal.overflow_mul-n
-overflow_mul-n c = omega (arith, codes-few c.before.before)
 
 pub overflow_add-first-in-loop-n-2 : goal.overflow_add-first-in-loop-n-2
 overflow_add-first-in-loop-n-2 c = omega (arith, codes-few c.before.before)

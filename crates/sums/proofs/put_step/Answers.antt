@@ -1,7 +1,7 @@
 -- `sums::put_step` meets its contract. The loop's invariant: the lines of the first m sums have been written. Assumes nothing.
 use mathlib.Core.Path.{◌≡◌, sym, ap, subst, ◌∙◌}
 use mathlib.Core.List.{List}
-use Prim.Native.Nat.{ℕ, suc, ◌+◌, ◌*◌, ◌<◌, ◌≤◌}
+use Prim.Native.Nat.{ℕ, suc, ◌+◌, ◌*◌, ◌≤◌}
 use native.Mathlib.Omega.{arith}
 use lib.IntN.{ℤ, ◌+ℤ◌}
 use lib.ListN.{length}
@@ -12,12 +12,12 @@ use Rattle.model.specs.Sheet.{Sheet, Constraint, sheet_of, constraint}
 use Rattle.formula.specs.Clause.{T, least, spread, blank}
 use Rattle.formula.specs.Numbering.{number}
 use Rattle.model.proofs.Pieces.{loop_none, loop_room, loop_next, loop_done}
-use Rattle.formula.proofs.Small.{letters-few, fields-few}
-use Rattle.numbering.proofs.Laws.{number_fits, add_fits, add_back}
+use Rattle.formula.proofs.Small.{letters-few}
+use Rattle.numbering.proofs.Laws.{add_fits, add_back}
 use Rattle.dimacs.specs.Codes.{most_code, large_code}
 use Rattle.sums.specs.Lines.{sum_lines, step_lines}
 use Rattle.sums.specs.Codes.{add_line, Added}
-use Rattle.sums.proofs.Summed.{sum_lines_lem, added, low_in, low_code, low_back, coefficient_back}
+use Rattle.sums.proofs.Summed.{sum_lines_lem, added, low_code, low_back, coefficient_back}
 use Rattle.sums.proofs.put_step.Goals as goal
 use Rattle.sums.proofs.put_step.Lts as lts
 use Rattle.sums.proofs.put_step.Reads as reads
@@ -41,59 +41,9 @@ module _ (start : lts.Start tie.the-claims reads.Pre reads.Post goal.the-invaria
   unfolding step_lines
   room = start.requires.3
 
-  field-few : start.args.k < 6
-  field-few = omega (arith, start.requires.2, fields-few s start.requires.0.1)
-
-pub limit-limit-requires : goal.limit-limit-requires
-limit-limit-requires c =
-    (c.requires.0, c.requires.2)
-
-pub letters-requires : goal.letters-requires
-letters-requires c = c.requires.0
-
 letters-small : (c : lts.After-letters tie.the-claims reads.Pre reads.Post goal.the-invariant-loop-m goal.the-decreases-loop-m) → c.letters.result ≤ 8
 letters-small c =
     omega (arith, c.letters.ensures, letters-few (s c.before.before.before.before) c.requires.0.1)
-
-pub overflow_add-stride : goal.overflow_add-stride
-overflow_add-stride c = omega (arith, letters-small c.before)
-
-pub overflow_mul-stride : goal.overflow_mul-stride
-overflow_mul-stride c = omega (arith, letters-small c.before)
-
-pub first_blank-blank-requires : goal.first_blank-blank-requires
-first_blank-blank-requires c =
-    (c.requires.0, c.requires.2)
-
-pub least-low-requires : goal.least-low-requires
-least-low-requires c =
-    (c.requires.0, c.requires.1, omega (arith, c.requires.2))
-
-pub sum_code-here-requires : goal.sum_code-here-requires
-sum_code-here-requires c =
-    (c.requires.0, low_in (s c.before.before.before.before.before.before.before) c.requires.0.1 c.args.r c.requires.1 c.args.k (omega (arith, c.requires.2)) c.least-low.result c.least-low.ensures)
-
-pub overflow_add-k : goal.overflow_add-k
-overflow_add-k c = omega (arith, field-few c.before.before.before.before.before.before.before.before)
-
-pub least-next-requires : goal.least-next-requires
-least-next-requires c =
-    (c.requires.0, c.requires.1, omega (arith, c.requires.2))
-
-pub overflow_add-k-2 : goal.overflow_add-k-2
-overflow_add-k-2 c = omega (arith, field-few c.before.before.before.before.before.before.before.before.before)
-
-pub sum_code-first-requires : goal.sum_code-first-requires
-sum_code-first-requires c =
-    (c.requires.0, low_in (s c.before.before.before.before.before.before.before.before.before) c.requires.0.1 c.args.r c.requires.1 (c.args.k + 1) (omega (arith, c.requires.2)) c.least-next.result c.least-next.ensures)
-
-pub coefficient-c-requires : goal.coefficient-c-requires
-coefficient-c-requires c =
-    (c.requires.0.0, c.requires.1, c.requires.2)
-
-pub spread-last-requires : goal.spread-last-requires
-spread-last-requires c =
-    (c.requires.0, c.requires.1, omega (arith, c.requires.2))
 
 -- what is known before the loop: the codes of the least sums, here and with field k added
 module _ (c : lts.After-spread tie.the-claims reads.Pre reads.Post goal.the-invariant-loop-m goal.the-decreases-loop-m) where
@@ -175,19 +125,11 @@ module _ (c : lts.In-loop tie.the-claims reads.Pre reads.Post goal.the-invariant
         added (s start) r k m _ _ _ _ _ _ _ _ at_here at-stride at-limit at-blank at_first is-low is-factor is_sum ok hr start.requires.2 one_of (first_code known).1,
       )
 
-pub overflow_mul-m : goal.overflow_mul-m
-overflow_mul-m c = omega (arith, codes-few c.before.before)
-
 pub overflow_add-here : goal.overflow_add-here
 overflow_add-here c = omega (arith, codes-few c.before.before)
 
 pub overflow_add-here-in-loop-m : goal.overflow_add-here-in-loop-m
 overflow_add-here-in-loop-m c = omega (arith, codes-few c.before.before)
-
-pub overflow_cast-m : goal.overflow_cast-m
-overflow_cast-m c =
-    let from = start c.before.before in
-    number_fits (s from) from.requires.0.1 from.args.r from.requires.1 from.args.k (omega (arith, from.requires.2)) (m c.before.before) (one_of c.before.before)
 
 pub overflow_add-low : goal.overflow_add-low
 overflow_add-low c =

@@ -6,10 +6,6 @@ use Rattle.model.proofs.Pieces.{loop_none, loop_room, loop_next, loop_done}
 use Rattle.sums.specs.Lines.{step_lines}
 use Rattle.sums.proofs.put_steps.Goals as goal
 
-pub fields-fields-requires : goal.fields-fields-requires
-fields-fields-requires c =
-    c.requires.0
-
 pub loop-k-init : goal.loop-k-init
 loop-k-init c =
     let a = c.args in
