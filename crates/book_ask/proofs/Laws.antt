@@ -11,7 +11,8 @@ use Rattle.model.specs.Solvable.{solvable}
 use Rattle.model.proofs.Lists.{by_test}
 use Rattle.model.proofs.Known.{accepted_as}
 use Rattle.model.proofs.Solvable.{solvable_in, none_unsolvable}
-use Rattle.unification.specs.declared.Found.{Found}
+use Rattle.std.specs.Prelude.{Option, Some, None, is_some}
+use Rattle.fields.specs.declared.Field.{Field}
 use Rattle.solution.specs.Whole.{Settles}
 use Rattle.book.specs.Book.{Book, BookIn}
 use Rattle.book.specs.Pairs.{question, clash}
@@ -26,7 +27,6 @@ module _ (k : Book) (ok : BookIn k) (i j : ℕ) (hi : i < length k.templates) (h
   question-admitted = ((accepted_as b (ap (λ z. read z) is ∙ question-read k ok i j hi hj)).0, subst InRange (sym read_as) (question_in_range k ok i j hi hj))
 
   -- and what settles them says whether the templates clash
-  pub settles_clash : (r : Found) → Settles b false r → r.ok ≡ clash k i j
-  settles_clash r s = by_test r.ok
-      (λ e. e ∙ sym (ap solvable (sym read_as) ∙ solvable_in (sheet_of b) _ (s.solution e)))
-      (λ e. e ∙ sym (ap solvable (sym read_as) ∙ none_unsolvable (sheet_of b) (s.none e)))
+  pub settles_clash : (r : Option (List Field)) → Settles b false r → is_some r ≡ clash k i j
+  settles_clash (Some g) s = sym (ap solvable (sym read_as) ∙ solvable_in (sheet_of b) _ s.solution)
+  settles_clash None s = sym (ap solvable (sym read_as) ∙ none_unsolvable (sheet_of b) s)
