@@ -1,6 +1,5 @@
 -- `schedule_table::put_table` meets its contract. The loop's invariant: the table is right up to here. Assumes nothing.
 use mathlib.Core.Path.{◌≡◌, sym, subst}
-use mathlib.Core.Bool.{Bool, false}
 use mathlib.Core.List.{List}
 use Prim.Native.Nat.{ℕ, ◌+◌, ◌*◌, ◌/◌, ◌%◌, ◌<◌, ◌≤◌}
 use native.Mathlib.Omega.{arith}
@@ -15,19 +14,19 @@ use Rattle.schedule_table.specs.Table.{Marks}
 use Rattle.schedule_table.proofs.put_table.Goals as goal
 use Rattle.schedule_table.proofs.put_table.Invariants.{ShowsTo}
 
--- one cell more: it is that of one pair alone, since no row has more than 16
-one_more : (k n : ℕ) (s : Schedule) (table : List Bool) (v : Bool) → n ≤ 16 → k < length table → ShowsTo k n s table → Marks n s (k / 16) (k % 16) v → ShowsTo (k + 1) n s (set table k v)
+-- one byte more: it is that of one pair alone, since no row has more than 16
+one_more : (k n : ℕ) (s : Schedule) (table : List ℕ) (v : ℕ) → n ≤ 16 → k < length table → ShowsTo k n s table → Marks n s (k / 16) (k % 16) v → ShowsTo (k + 1) n s (set table k v)
 one_more k n s table v few inside h m i j l a b = by_test (eqb (i * 16 + j) k)
     (λ t.
     let e = eqb-true (i * 16 + j) k t in
     let p : k / 16 ≡ i = omega arith in
     let q : k % 16 ≡ j = omega arith in
-    subst (λ x. Marks n s i j (get_or (set table k v) x false)) (sym e)
-    (subst (Marks n s i j) (sym (get_or-set_same table k v false inside)) (subst (λ x. Marks n s i x v) q (subst (λ x. Marks n s x (k % 16) v) p m))) a b)
+    subst (λ x. Marks n s i j (get_or (set table k v) x 0)) (sym e)
+    (subst (Marks n s i j) (sym (get_or-set_same table k v 0 inside)) (subst (λ x. Marks n s i x v) q (subst (λ x. Marks n s x (k % 16) v) p m))) a b)
     (λ t.
     let d = eqb-false (i * 16 + j) k t in
     let z : i * 16 + j ≤ k = omega arith in
-    subst (Marks n s i j) (sym (get_or-set_other table k (i * 16 + j) v false d)) (h i j (lt_of_le-ne z d)) a b)
+    subst (Marks n s i j) (sym (get_or-set_other table k (i * 16 + j) v 0 d)) (h i j (lt_of_le-ne z d)) a b)
 
 pub loop-k-init : goal.loop-k-init
 loop-k-init c i j l a b = absurd (omega arith)

@@ -1,4 +1,3 @@
-use mathlib.Core.Bool.{Bool, false}
 use mathlib.Core.List.{List}
 use Prim.Native.Nat.{ℕ, ◌+◌, ◌*◌, ◌<◌}
 use lib.ListN.{get_or}
@@ -7,8 +6,8 @@ use Rattle.schedule_table.specs.Table.{Marks}
 use Rattle.schedule_table.proofs.put_table.Given as goal
 
 -- the table is right up to an offset
-abbrev pub ShowsTo : ℕ → ℕ → Schedule → List Bool → Type 0
-ShowsTo k n s table = (i j : ℕ) → i * 16 + j < k → Marks n s i j (get_or table (i * 16 + j) false)
+abbrev pub ShowsTo : ℕ → ℕ → Schedule → List ℕ → Type 0
+ShowsTo k n s table = (i j : ℕ) → i * 16 + j < k → Marks n s i j (get_or table (i * 16 + j) 0)
 
 abbrev pub invariant-loop-k : goal.invariant-loop-k
 invariant-loop-k l = ShowsTo l.k l.n (schedule_of l.n l.hours) l.table
