@@ -7,37 +7,33 @@ ghost use Rattle.book.specs.Book.{book_of, Admitted};
 ghost use Rattle.schedule.specs.Schedule as schedule;
 ghost use Rattle.book_list.specs.Answer.{compared};
 
-use book_list::{Compared, Refusal, TABLE, list_wanted};
+use book_list::{Refusal, TABLE, list_wanted};
 use schedule_table::put_table;
 
 // The list of an accepted book with accepted hours.
-fn list_shared(book: &[u8], hours: &[u8], list: &mut [u8]) -> Compared
+fn list_shared(book: &[u8], hours: &[u8], list: &mut [u8]) -> Result<usize, Refusal>
     requires { Admitted book.now × schedule.Admitted (length (book_of book.now).templates) hours.now }
     ensures { Decides (comparing_hours book.now hours.now (length list.old)) list.old (compared result) list.new }
 {
-    let mut wanted = [0; TABLE];
+    let mut wanted = [false; TABLE];
     put_table(&mut wanted, hours, book_parts::count(book));
     list_wanted(book, &wanted, list)
 }
 
 // The list of an accepted book.
-fn with_hours(book: &[u8], hours: &[u8], list: &mut [u8]) -> Compared
+fn with_hours(book: &[u8], hours: &[u8], list: &mut [u8]) -> Result<usize, Refusal>
     requires { Admitted book.now }
     ensures { Decides (comparing_hours book.now hours.now (length list.old)) list.old (compared result) list.new }
 {
-    match schedule_read::read(hours, book_parts::count(book)) {
-        schedule_read::Reading::Refused(refusal) => Compared::Refused(Refusal::Hours(refusal)),
-        schedule_read::Reading::Accepted => list_shared(book, hours, list),
-    }
+    schedule_read::read(hours, book_parts::count(book))?;
+    list_shared(book, hours, list)
 }
 
 // Lists which templates of a book clash and share a minute, two bytes for each pair, by the first and then by the second, at the front of the buffer; and answers
 // how many such pairs there are. Else the first refusal in document 02's order. Any bytes are allowed. Bytes after the list, and refused all, are as they were.
-pub fn compare(book: &[u8], hours: &[u8], list: &mut [u8]) -> Compared
+pub fn compare(book: &[u8], hours: &[u8], list: &mut [u8]) -> Result<usize, Refusal>
     ensures { Decides (comparing_hours book.now hours.now (length list.old)) list.old (compared result) list.new }
 {
-    match book_read::read(book) {
-        book_read::Reading::Refused(refusal) => Compared::Refused(Refusal::Book(refusal)),
-        book_read::Reading::Accepted => with_hours(book, hours, list),
-    }
+    book_read::read(book)?;
+    with_hours(book, hours, list)
 }
