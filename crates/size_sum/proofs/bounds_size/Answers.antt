@@ -7,7 +7,7 @@ use Rattle.formula.specs.Clause.{T, least, spread, fields}
 use Rattle.formula.specs.Numbering.{number}
 use Rattle.formula.proofs.Totals.{within_le}
 use Rattle.dimacs.specs.Codes.{most_code}
-use Rattle.sums.proofs.Summed.{low_in, low_code}
+use Rattle.sums.proofs.Summed.{low_code}
 use Rattle.size_sum.proofs.Laws.{bound_lines_lem}
 use Rattle.size_sum.proofs.bounds_size.Goals as goal
 use Rattle.size_sum.proofs.bounds_size.Lts as lts
@@ -42,11 +42,6 @@ module _ (c : lts.After-spread tie.the-claims reads.Pre reads.Post) where
       let at_least_lem = c.least in
       let told = low_code (s start_of) start_of.requires.0.1 start_of.args.r start_of.requires.1 all-fields.fields-fields.result (omega (arith, all-fields.fields-fields.ensures)) at_least_lem.result at_least_lem.ensures first c.sum_code-first.ensures in
       (told.0 ∙ ap (λ k. 2 * number (s start_of) (T start_of.args.r k (least (s start_of) (rule start_of) k))) all-fields.fields-fields.ensures, told.1)
-
-pub sum_code-first-requires : goal.sum_code-first-requires
-sum_code-first-requires c =
-    let at_fields = c.fields-fields in
-    (c.requires.0, low_in (s c.before.before.before.before) c.requires.0.1 c.args.r c.requires.1 at_fields.result (omega (arith, at_fields.ensures)) c.least.result c.least.ensures)
 
 pub overflow_sub-over : goal.overflow_sub-over
 overflow_sub-over c = omega (arith, inside c.before)

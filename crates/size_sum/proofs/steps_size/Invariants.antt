@@ -1,9 +1,8 @@
 use mathlib.Core.Path.{◌≡◌}
-use Prim.Native.Nat.{◌-◌, ◌*◌, ◌≤◌}
+use Prim.Native.Nat.{◌*◌, ◌≤◌}
 use lib.ListN.{length}
 use Rattle.model.specs.Lists.{each, up_to}
 use Rattle.model.specs.Sheet.{sheet_of}
-use Rattle.formula.specs.Clause.{fields}
 use Rattle.sums.specs.Lines.{step_lines}
 use Rattle.size_sum.proofs.steps_size.Given as goal
 
