@@ -15,7 +15,7 @@ fn list_shared(book: &[u8], hours: &[u8], list: &mut [u8]) -> Result<usize, Refu
     requires { Admitted book.now × schedule.Admitted (length (book_of book.now).templates) hours.now }
     ensures { Decides (comparing_hours book.now hours.now (length list.old)) list.old (compared result) list.new }
 {
-    let mut wanted = [false; TABLE];
+    let mut wanted = [0; TABLE];
     put_table(&mut wanted, hours, book_parts::count(book));
     list_wanted(book, &wanted, list)
 }

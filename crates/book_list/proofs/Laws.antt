@@ -1,10 +1,11 @@
 -- The list as it is written, pair by pair and row by row; and which pairs a table wants. Assumes nothing.
 use mathlib.Core.Path.{◌≡◌, sym, ap, subst, ◌∙◌}
-use mathlib.Core.Bool.{Bool, true, false, and-false}
+use mathlib.Core.Bool.{Bool, false, and-false}
 use mathlib.Core.List.{List, [], ◌∷◌}
 use Prim.Native.Nat.{ℕ, suc, ◌+◌, ◌-◌, ◌*◌, ◌<◌, ◌≤◌}
 use native.Mathlib.Omega.{arith}
 use lib.ListN.{length, get_or, replicate, get_or-replicate}
+use borrow.Author.Tests.{eq-eqb, ne_eqb}
 use Rattle.model.specs.Lists.{each, from, up_to, when, Puts}
 use Rattle.model.proofs.Lists.{and_true}
 use Rattle.model.proofs.Seams.{nothing}
@@ -18,20 +19,20 @@ use Rattle.book_list.specs.Wanted.{wants, listed}
 pub pair_none : (s : List ℕ) (at i j : ℕ) (t : Bool) → t ≡ false → Puts s at (when t (i ∷ j ∷ [])) s at
 pair_none s at i j t e = let w = nothing s at in subst (λ b. Puts s at (when b (i ∷ j ∷ [])) s at) (sym e) (w.past, w.holds)
 
-module _ (table : List Bool) (k : Book) (i j : ℕ) where
-  pub not_wanted : get_or table (i * 16 + j) false ≡ false → listed table k i j ≡ false
+module _ (table : List ℕ) (k : Book) (i j : ℕ) where
+  pub not_wanted : get_or table (i * 16 + j) 0 ≡ 0 → listed table k i j ≡ false
   unfolding listed wants
-  not_wanted e = rw e (and-false (clash k i j))
+  not_wanted e = rw (eq-eqb (get_or table (i * 16 + j) 0) 0 e) (and-false (clash k i j))
 
-  pub wanted_clash : get_or table (i * 16 + j) false ≡ true → listed table k i j ≡ clash k i j
+  pub wanted_clash : (get_or table (i * 16 + j) 0 ≡ 0 → ⊥) → listed table k i j ≡ clash k i j
   unfolding listed wants
-  wanted_clash e = rw e (and_true (clash k i j))
+  wanted_clash d = rw (ne_eqb (get_or table (i * 16 + j) 0) 0 d) (and_true (clash k i j))
 
 -- where all are wanted, those that clash are listed
-pub all_wanted : (k : Book) → length k.templates ≤ 16 → kept (listed (replicate 256 true) k) (length k.templates) ≡ clashing k
+pub all_wanted : (k : Book) → length k.templates ≤ 16 → kept (listed (replicate 256 1) k) (length k.templates) ≡ clashing k
 all_wanted k few =
-    kept-agree (listed (replicate 256 true) k) (clash k) (length k.templates)
-    (λ i j l m. wanted_clash (replicate 256 true) k i j (get_or-replicate 256 (i * 16 + j) true false (omega arith)))
+    kept-agree (listed (replicate 256 1) k) (clash k) (length k.templates)
+    (λ i j l m. wanted_clash (replicate 256 1) k i j (λ e. let one : get_or {A = ℕ} (replicate 256 1) (i * 16 + j) 0 ≡ 1 = get_or-replicate 256 (i * 16 + j) 1 0 (omega arith) in omega arith))
     ∙ sym (clashing-kept k)
 
 -- the d-th after i

@@ -52,7 +52,7 @@ impl From<Refusal> for u8 {
     }
 }
 
-// The greatest size of a list: two bytes for each two of 16 templates. A table has a cell for each two, in 16 rows.
+// The greatest size of a list: two bytes for each two of 16 templates. A table has a byte for each two, in 16 rows.
 const MOST_LIST: usize = 240;
 
 const ROW: usize = 16;
@@ -63,8 +63,8 @@ pub const TABLE: usize = 256;
 fn put_pair(
     list: &mut [u8],
     at: usize,
-    wanted: &[bool],
-    verdicts: &mut [Option<bool>],
+    wanted: &[u8],
+    verdicts: &mut [u8],
     book: &[u8],
     i: usize,
     j: usize,
@@ -73,7 +73,7 @@ fn put_pair(
     ensures puts { Puts list.old at (when (listed wanted.now (book_of book.now) i j) (i ∷ j ∷ [])) list.new result }
     ensures remembers { Remembers (book_of book.now) verdicts.new }
 {
-    if wanted[i * ROW + j] && settled(verdicts, book, i, j) {
+    if wanted[i * ROW + j] != 0 && settled(verdicts, book, i, j) {
         put(list, at, &[i as u8, j as u8])
     } else {
         at
@@ -84,8 +84,8 @@ fn put_pair(
 fn put_row(
     list: &mut [u8],
     at: usize,
-    wanted: &[bool],
-    verdicts: &mut [Option<bool>],
+    wanted: &[u8],
+    verdicts: &mut [u8],
     book: &[u8],
     i: usize,
     n: usize,
@@ -102,7 +102,7 @@ fn put_row(
 }
 
 // The whole list, at the front of the buffer. Returns its length.
-fn put_list(list: &mut [u8], wanted: &[bool], verdicts: &mut [Option<bool>], book: &[u8]) -> usize
+fn put_list(list: &mut [u8], wanted: &[u8], verdicts: &mut [u8], book: &[u8]) -> usize
     requires { Admitted book.now × (length wanted.now ≡ 256) × Remembers (book_of book.now) verdicts.old × (length (list_bytes (kept (listed wanted.now (book_of book.now)) (length (book_of book.now).templates))) ≤ length list.old) }
     ensures { Puts list.old 0 (list_bytes (kept (listed wanted.now (book_of book.now)) (length (book_of book.now).templates))) list.new result }
 {
@@ -117,8 +117,8 @@ fn put_list(list: &mut [u8], wanted: &[bool], verdicts: &mut [Option<bool>], boo
 // The list of an accepted book, made in a buffer that is long enough for any.
 fn deliver(
     book: &[u8],
-    wanted: &[bool],
-    verdicts: &mut [Option<bool>],
+    wanted: &[u8],
+    verdicts: &mut [u8],
     own: &mut [u8],
     list: &mut [u8],
 ) -> Result<usize, Refusal>
@@ -133,14 +133,14 @@ fn deliver(
     Ok(n / 2)
 }
 
-// Lists which templates of an accepted book clash, of the pairs that a table wants: true in row i, at j. Bytes after the list, and refused all, are
+// Lists which templates of an accepted book clash, of the pairs that a table wants: a byte that is not 0 in row i, at j. Bytes after the list, and refused all, are
 // as they were.
-pub fn list_wanted(book: &[u8], wanted: &[bool], list: &mut [u8]) -> Result<usize, Refusal>
+pub fn list_wanted(book: &[u8], wanted: &[u8], list: &mut [u8]) -> Result<usize, Refusal>
     requires { Admitted book.now × (length wanted.now ≡ 256) }
     ensures { Decides (listing (kept (listed wanted.now (book_of book.now)) (length (book_of book.now).templates)) (length list.old)) list.old (compared result) list.new }
 {
     let mut own = [0; MOST_LIST];
-    let mut verdicts = [None; TABLE];
+    let mut verdicts = [0; TABLE];
     deliver(book, wanted, &mut verdicts, &mut own, list)
 }
 
@@ -149,7 +149,7 @@ fn list_all(book: &[u8], list: &mut [u8]) -> Result<usize, Refusal>
     requires { Admitted book.now }
     ensures { Decides (comparing book.now (length list.old)) list.old (compared result) list.new }
 {
-    let wanted = [true; TABLE];
+    let wanted = [1; TABLE];
     list_wanted(book, &wanted, list)
 }
 
