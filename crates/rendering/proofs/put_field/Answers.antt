@@ -5,10 +5,6 @@ use Rattle.model.proofs.Pieces.{loop_none, loop_room, loop_next, loop_done}
 use Rattle.rendering.specs.Lines.{place_lines, field_lines}
 use Rattle.rendering.proofs.put_field.Goals as goal
 
-pub limit-limit-requires : goal.limit-limit-requires
-limit-limit-requires c =
-    (c.requires.0, c.requires.1)
-
 pub loop-c-init : goal.loop-c-init
 unfolding field_lines
 loop-c-init c =

@@ -16,12 +16,6 @@ use Rattle.rendering.proofs.put_file.Lts as lts
 use Rattle.rendering.proofs.put_file.Reads as reads
 use Rattle.rendering.proofs.put_file.Tie as tie
 
-pub variable_count-variables-requires : goal.variable_count-variables-requires
-variable_count-variables-requires c = c.requires.0
-
-pub clause_count-clauses-requires : goal.clause_count-clauses-requires
-clause_count-clauses-requires c = c.requires.0
-
 -- the pieces, and what is still to be written of them
 module _ (c : lts.After-clause_count tie.the-claims reads.Pre reads.Post) where
   abbrev start_of : lts.Start tie.the-claims reads.Pre reads.Post

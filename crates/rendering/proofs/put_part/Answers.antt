@@ -1,11 +1,9 @@
 -- `rendering::put_part` meets its contract, by its section. Assumes nothing.
 use mathlib.Core.Path.{◌≡◌, sym, subst}
 use mathlib.Core.List.{List}
-use Prim.Native.Nat.{ℕ, ◌+◌, ◌<◌, ◌≤◌}
-use lib.ListN.{length}
+use Prim.Native.Nat.{ℕ}
 use Rattle.model.specs.Lists.{Puts}
 use Rattle.model.specs.Sheet.{sheet_of}
-use Rattle.formula.specs.Count.{parts}
 use Rattle.shape.specs.declared.Section.{Section}
 use Rattle.shape.specs.Name.{section_of}
 use Rattle.rendering.specs.Lines.{part_lines}
@@ -19,29 +17,8 @@ module _ (start : lts.Start tie.the-claims reads.Pre reads.Post) (x : Section) (
   abbrev lines : Section → List ℕ
   lines y = part_lines (sheet_of start.args.sheet.now) (section_of y) start.args.i
 
-  inside : start.args.i < parts (sheet_of start.args.sheet.now) (section_of x)
-  inside = subst (λ y. start.args.i < parts (sheet_of start.args.sheet.now) (section_of y)) met start.requires.1
-
-  room : start.args.at + length (lines x) ≤ length start.args.buf.now
-  room = subst (λ y. start.args.at + length (lines y) ≤ length start.args.buf.now) met start.requires.2
-
   promised : (b : List ℕ) (q : ℕ) → Puts start.args.buf.now start.args.at (lines x) b q → Puts start.args.buf.now start.args.at (lines start.args.section) b q
   promised b q f = subst (λ y. Puts start.args.buf.now start.args.at (lines y) b q) (sym met) f
-
-pub put_field-requires : goal.put_field-requires
-put_field-requires c =
-    let met = c.in-Fields.is in
-    (c.requires.0, inside c.before.before.before.before.before _ met, room c.before.before.before.before.before _ met)
-
-pub put_equation-requires : goal.put_equation-requires
-put_equation-requires c =
-    let met = c.in-Equations.is in
-    (c.requires.0, inside c.before.before.before.before.before _ met, room c.before.before.before.before.before _ met)
-
-pub put_constraint-requires : goal.put_constraint-requires
-put_constraint-requires c =
-    let met = c.in-Constraints.is in
-    (c.requires.0, inside c.before.before.before.before.before _ met, room c.before.before.before.before.before _ met)
 
 pub returns-in-Fields : goal.returns-in-Fields
 returns-in-Fields c =

@@ -20,16 +20,6 @@ use Rattle.rendering.proofs.put_place.Lts as lts
 use Rattle.rendering.proofs.put_place.Reads as reads
 use Rattle.rendering.proofs.put_place.Tie as tie
 
-pub letters-letters-requires : goal.letters-letters-requires
-letters-letters-requires c = c.requires.0
-
-pub place_number-first-requires : goal.place_number-first-requires
-place_number-first-requires c =
-    (c.requires.0, (c.requires.1, omega arith))
-
-pub overflow_mul-first : goal.overflow_mul-first
-overflow_mul-first c = omega (arith, c.place_number-first.ensures.1)
-
 -- the pieces, and what is still to be written of them
 module _ (c : lts.After-place_number tie.the-claims reads.Pre reads.Post) where
   abbrev start_of : lts.Start tie.the-claims reads.Pre reads.Post
@@ -87,11 +77,6 @@ overflow_add-c c =
     let facts = known (clause-of c.before.before.before) in
     let start = start_of facts in
     omega (arith, start.requires.1.1, limit-small (s facts) start.requires.0.1 start.args.f)
-
-pub limit-requires : goal.limit-requires
-limit-requires c =
-    let start = start_of (known (clause-of c.before.before.before)) in
-    (start.requires.0, start.requires.1.0)
 
 -- a blank tail where the place is not the last, and none at the last
 abbrev pairs_of : lts.After-limit tie.the-claims reads.Pre reads.Post → lts.After-put_all_pairs tie.the-claims reads.Pre reads.Post

@@ -7,10 +7,6 @@ use Rattle.shape.specs.Name.{section_of}
 use Rattle.rendering.specs.Lines.{part_lines, section_lines}
 use Rattle.rendering.proofs.put_section.Goals as goal
 
-pub parts-parts-requires : goal.parts-parts-requires
-parts-parts-requires c =
-    c.requires.0
-
 pub loop-i-init : goal.loop-i-init
 unfolding section_lines
 loop-i-init c =
