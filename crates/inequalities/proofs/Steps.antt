@@ -5,14 +5,11 @@ use Prim.Native.Nat.{ℕ, zero, suc, ◌+◌, ◌*◌, ◌<◌, ◌≤◌}
 use native.Mathlib.Numerals.{add-one}
 use native.Mathlib.Omega.{arith}
 use lib.Dec.{eqb}
-use lib.Arith.{lt_of_le-ne}
 use lib.ListN.{length, get_or, drop, set, drop_of_length-le}
-use borrow.Author.Tests.{eqb-true, eqb-false}
 use lib.Seq.{drop-cons, get_or-drop}
 use Rattle.std.proofs.lemmas.List.{length-set, get_or-set_same, get_or-set_other, ext_get_or}
 use Rattle.model.specs.Lists.{pick, from, total}
 use Rattle.model.specs.Sheet.{symbol_of}
-use Rattle.model.proofs.Lists.{by_test}
 use Rattle.model.proofs.Keeping.{total-more}
 use Rattle.inequalities.specs.Rows.{side_sum, slot_of, occurrences, side}
 
@@ -52,23 +49,6 @@ pub record WrittenTo (row : List ℕ) (first second : ℕ → ℕ) (k : ℕ) : T
   pub seconds : (f : ℕ) → f < k → get_or row (7 + f) 0 ≡ second f
 
 module _ (row : List ℕ) (first second : ℕ → ℕ) where
-  pub written_next : (k x y : ℕ) → k < 6 → x ≡ first k → y ≡ second k → WrittenTo row first second k → WrittenTo (set (set row k x) (7 + k) y) first second (k + 1)
-  written_next k x y h one two w =
-      let n = w.long in
-      let n' : length (set row k x) ≡ 14 = simp length-set n in
-      record {
-        long = simp length-set n;
-        firsts = λ f less. rw (get_or-set_other (set row k x) (7 + k) f y 0 (λ e. omega arith)) (by_test (eqb f k)
-            (λ e. let here = eqb-true f k e in rw (here, get_or-set_same row k x 0 (omega arith)) one)
-            (λ e. let other = eqb-false f k e in rw (get_or-set_other row k f x 0 other) (w.firsts f (lt_of_le-ne (omega arith) other))));
-        seconds = λ f less. by_test (eqb f k)
-            (λ e. let here = eqb-true f k e in rw (here, get_or-set_same (set row k x) (7 + k) y 0 (omega arith)) two)
-            (λ e.
-            let other = eqb-false f k e in
-            rw (get_or-set_other (set row k x) (7 + k) (7 + f) y 0 (λ q. other (omega arith)), get_or-set_other row k (7 + f) x 0 (λ q. omega arith))
-            (w.seconds f (lt_of_le-ne (omega arith) other)));
-      }
-
   pub written_all : (m n : ℕ) → WrittenTo row first second 6 → set (set row 6 m) 13 n ≡ side first m ++ side second n
   unfolding from
   written_all m n w = ext_get_or 0 (set (set row 6 m) 13 n) (side first m ++ side second n) (simp length-set w.long) at

@@ -7,13 +7,8 @@ use borrow.Author.Tests.{eqb-true, eqb-false}
 use Rattle.model.specs.Sheet.{sheet_of}
 use Rattle.model.proofs.Lists.{by_test}
 use Rattle.balance.specs.Balance.{Fair, Unfair}
-use Rattle.balance.proofs.Table.{sized, unfair_apart}
+use Rattle.balance.proofs.Table.{unfair_apart}
 use Rattle.balance.proofs.lopsided.Goals as goal
-
-pub joined_surplus-requires : goal.joined_surplus-requires
-joined_surplus-requires c =
-    let few = c.requires.0.1.counts_in.of_fields in
-    (sized (sheet_of c.args.sheet.now) c.args.table.now c.requires.1, omega (arith, c.fields-end.ensures))
 
 pub loop-f-preserved : goal.loop-f-preserved
 loop-f-preserved c k low high =
@@ -21,11 +16,6 @@ loop-f-preserved c k low high =
     by_test (eqb k l.f)
     (λ e. let same = eqb-true k l.f e in rw same (subst (Fair c.args.pairs) c.joined_surplus.ensures (c.bars.ensures c.if-bars.false)))
     (λ e. l.invariant k low (lt_of_le-ne (omega arith) (eqb-false k l.f e)))
-
-pub joined_surplus-requires-in-loop-a : goal.joined_surplus-requires-in-loop-a
-joined_surplus-requires-in-loop-a c =
-    let few = c.requires.0.1.counts_in.of_letters in
-    (sized (sheet_of c.args.sheet.now) c.args.table.now c.requires.1, omega (arith, c.letters-a-end.ensures))
 
 pub returns-then-tells : goal.returns-then-tells
 returns-then-tells c _ =

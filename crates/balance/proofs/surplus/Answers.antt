@@ -1,8 +1,5 @@
 -- `balance::surplus` meets its contract. Assumes nothing.
-use mathlib.Core.Path.{ap, ◌∙◌}
-use native.Mathlib.Omega.{arith}
 use Rattle.model.specs.Sheet.{sheet_of}
-use Rattle.balance.specs.Balance.{count}
 use Rattle.balance.proofs.Joined.{template-few}
 use Rattle.balance.proofs.surplus.Goals as goal
 
@@ -13,9 +10,3 @@ occurrences-left-requires c =
 pub occurrences-right-requires : goal.occurrences-right-requires
 occurrences-right-requires c =
     rw c.template-2.ensures (template-few (sheet_of c.args.sheet.now) c.requires.0.1 c.args.p c.requires.1 1)
-
-pub returns : goal.returns
-returns c =
-    let left = c.occurrences-left.ensures.0 ∙ ap (count _) c.template.ensures in
-    let right = c.occurrences-right.ensures.0 ∙ ap (count _) c.template-2.ensures in
-    omega (arith, c.occurrences-left.ensures.1, c.occurrences-right.ensures.1)

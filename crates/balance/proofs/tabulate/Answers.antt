@@ -33,18 +33,8 @@ one_more P t i n less before this = record {
 pub loop-i-init : goal.loop-i-init
 loop-i-init c = none_first _
 
-pub bounds-table-i : goal.bounds-table-i
-bounds-table-i c = omega (arith, c.equations-i-end.ensures, c.requires.1.counts_in.of_equations)
-
 pub surplus-requires : goal.surplus-requires
 surplus-requires c = (c.requires, omega (arith, c.equations-i-end.ensures))
-
-pub loop-i-preserved : goal.loop-i-preserved
-loop-i-preserved c =
-    let l = c.loop-i in
-    let byte = c.symbol.ensures in
-    let here = c.surplus.ensures in
-    one_more _ l.table l.i c.surplus.result (omega (arith, c.equations-i-end.ensures, c.requires.1.counts_in.of_equations)) l.invariant (rw byte at here)
 
 pub returns : goal.returns
 returns c =

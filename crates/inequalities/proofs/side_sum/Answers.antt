@@ -11,9 +11,6 @@ loop-f-init c =
     let fits = c.type_inv.rows (a.at + 6) in
     (c.from-sum.ensures ∙ side_begins a.rows.now a.at a.n, omega arith)
 
-pub overflow_add-sum : goal.overflow_add-sum
-overflow_add-sum c = omega (arith, c.term-sum.ensures.1)
-
 pub loop-f-preserved : goal.loop-f-preserved
 loop-f-preserved c =
     let a = c.args in

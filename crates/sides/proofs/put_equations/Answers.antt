@@ -5,7 +5,7 @@ use native.Mathlib.Omega.{arith}
 use lib.ListN.{length}
 use Rattle.model.specs.Sheet.{sheet_of}
 use Rattle.formula.proofs.Small.{equations-few}
-use Rattle.sides.proofs.Flat.{front_none, front_skips, front_takes, front_whole}
+use Rattle.sides.proofs.Flat.{front_none, front_skips, front_takes}
 use Rattle.sides.proofs.put_equations.Goals as goal
 use Rattle.sides.proofs.put_equations.Goals.{then-marks-p, else-marks-p}
 
@@ -13,17 +13,6 @@ pub loop-p-init : goal.loop-p-init
 loop-p-init c =
     let a = c.args in
     front_none (sheet_of a.sheet.now) a.back a.marks a.x.now a.w.now
-
-pub bounds-marks-p : goal.bounds-marks-p
-bounds-marks-p c =
-    let few = equations-few (sheet_of c.args.sheet.now) c.requires.0.1 in
-    omega (arith, c.equations-p-end.ensures)
-
-pub put_equation-sizes-requires : goal.put_equation-sizes-requires
-put_equation-sizes-requires c =
-    let few = equations-few (sheet_of c.args.sheet.now) c.requires.0.1 in
-    let there = c.loop-p.invariant in
-    (c.requires.0, omega (arith, c.equations-p-end.ensures), omega (arith, c.requires.1, there.few_cells, there.cells_in.long, c.equations-p-end.ensures), omega (arith, c.requires.2, there.few_widths, there.widths_in.long, c.equations-p-end.ensures))
 
 pub loop-p-preserved : goal.loop-p-preserved
 loop-p-preserved c =
@@ -40,9 +29,3 @@ loop-p-preserved c =
           put.new.x put.new.w put.result put.ensures put.auto.x put.auto.w)
       | else-marks-p w ↦ rw (w.x-is, w.w-is, w.sizes-is) (front_skips m c.args.back c.args.marks c.args.x.now c.args.w.now p c.loop-p.x c.loop-p.w c.loop-p.sizes inside there w.if-marks-p.false)
     ]
-
-pub returns : goal.returns
-returns c =
-    let m = sheet_of c.args.sheet.now in
-    let few = equations-few m c.requires.0.1 in
-    front_whole m c.args.back c.args.marks c.args.x.now c.args.w.now c.loop-p.p c.loop-p.x c.loop-p.w c.loop-p.sizes (omega arith) (omega arith) c.loop-p.invariant

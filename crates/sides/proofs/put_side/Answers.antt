@@ -40,9 +40,6 @@ lent_length c =
     let s = sheet_of a.sheet.now in
     ap length (lent c) ∙ length-map (cells s (template s a.p a.side)) cell_byte ∙ sym c.width-n.ensures.0
 
-pub slice_bounds-put_cells-end : goal.slice_bounds-put_cells-end
-slice_bounds-put_cells-end c = sym (lent_length c.before)
-
 pub put_cells-requires : goal.put_cells-requires
 put_cells-requires c =
     let a = c.args in

@@ -4,11 +4,11 @@ use mathlib.Core.List.{List, [], ◌∷◌, ◌++◌, map, reverse, reverse-cons
 use Prim.Native.Nat.{ℕ, suc, ◌+◌, ◌-◌, ◌<◌, ◌≤◌}
 use native.Mathlib.Omega.{arith}
 use lib.ListN.{length, get_or, drop, set, length-set}
-use lib.Seq.{drop-cons, drop-length}
+use lib.Seq.{drop-cons}
 use Rattle.model.specs.Sheet.{sheet_of}
 use Rattle.model.proofs.Lists.{at}
 use Rattle.model.proofs.Keeping.{map-append}
-use Rattle.model.proofs.Seams.{Written, nothing, more, put_one}
+use Rattle.model.proofs.Seams.{Written, more, put_one}
 use Rattle.sides.specs.Reversal.{ByteIn, turned_byte}
 use Rattle.sides.proofs.put_turned.Goals as goal
 
@@ -29,28 +29,13 @@ module _ (T : ℕ → ℕ) (piece : List ℕ) (i : ℕ) (some : 0 < i) (inside :
       subst (λ (z : List ℕ). Written x₀ start z (set x end (T here)) (end + 1)) (sym grown)
       (more (T here ∷ []) (set x end (T here)) (end + 1) w (put_one x end (T here) (omega (arith, w.long))) (length-set x end (T here)) (omega (arith, w.past)))
 
-pub loop-i-init : goal.loop-i-init
-loop-i-init c =
-    let a = c.args in
-    (omega arith, rw (drop-length a.piece.now) (nothing a.x.now a.at))
-
 pub turned-requires : goal.turned-requires
 turned-requires c =
     let s = sheet_of c.args.sheet.now in
     (c.requires.0, at (ByteIn s) c.args.piece.now (c.loop-i.i - 1) 0 c.requires.1 (omega arith))
-
-pub bounds-x-end : goal.bounds-x-end
-bounds-x-end c = omega (arith, c.requires.2, c.loop-i.invariant.1.long)
 
 pub loop-i-preserved : goal.loop-i-preserved
 loop-i-preserved c =
     let a = c.args in
     let l = c.loop-i in
     (omega arith, rw c.turned.ensures (turn (turned_byte (sheet_of a.sheet.now)) a.piece.now l.i c.loop-i-test.true (omega arith) a.x.now l.x a.at l.end l.invariant.1 (omega (arith, c.requires.2))))
-
-pub returns : goal.returns
-returns c =
-    let l = c.loop-i in
-    let e : l.i ≡ 0 = omega arith in
-    let w = rw e at l.invariant.1 in
-    (w.past, w.holds)

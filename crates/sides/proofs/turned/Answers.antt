@@ -15,11 +15,6 @@ pub returns-then-b-lt-FIRST_PLACE : goal.returns-then-b-lt-FIRST_PLACE
 unfolding turned_byte
 returns-then-b-lt-FIRST_PLACE c = rw (lt-ltb c.args.b 8 (omega (arith, c.if-b-lt-FIRST_PLACE.true)))
 
-pub limit-limit-requires : goal.limit-limit-requires
-limit-limit-requires c =
-    let place = c.requires.1 c.if-b-lt-FIRST_PLACE.false in
-    (c.requires.0.0, omega (arith, place.0, c.from.ensures))
-
 -- the sheet, the byte, and what is known of the field and of the place in it
 abbrev s : lts.After-limit tie.the-claims reads.Pre reads.Post → Sheet
 s c = sheet_of c.args.sheet.now
@@ -38,12 +33,6 @@ place-small c =
     let low = limit-small (s c) ok ((b c - 8) / 8) in
     let e = limit_is c in
     (omega (arith, place.0), omega (arith, place.1), omega arith)
-
-pub overflow_sub-result : goal.overflow_sub-result
-overflow_sub-result c = omega (arith, (place-small c.before).1)
-
-pub overflow_sub-result-2 : goal.overflow_sub-result-2
-overflow_sub-result-2 c = omega (arith, (place-small c.before).1)
 
 pub overflow_add-result-2 : goal.overflow_add-result-2
 overflow_add-result-2 c = omega (arith, (place-small c.before).0, (place-small c.before).2)

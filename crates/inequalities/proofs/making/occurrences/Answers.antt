@@ -6,9 +6,6 @@ use Rattle.inequalities.proofs.Steps.{occurrences_turn, occurrences_done}
 use Rattle.inequalities.proofs.making.occurrences.Goals as goal
 use Rattle.inequalities.proofs.making.occurrences.Goals.{then-slot-k, else-slot-k}
 
-pub overflow_add-n : goal.overflow_add-n
-overflow_add-n c = omega (arith, c.requires)
-
 pub loop-symbol-preserved : goal.loop-symbol-preserved
 loop-symbol-preserved c =
     let l = c.loop-symbol in
