@@ -7,17 +7,17 @@ ghost use Rattle.book_list.specs.Answer as list;
 ghost use Rattle.c_answer.specs.Returned.{returned_number, Decided};
 ghost use Rattle.c_book.specs.Few.{Few};
 
-use book_list::Compared;
+use book_list::Refusal;
 use c_answer::minus;
 
 // What a list's answer returns: how many pairs there are, or minus a refusal's number.
-pub fn counted(compared: Compared) -> i64
+pub fn counted(compared: Result<usize, Refusal>) -> i64
     requires { Few compared }
     ensures { result ≡ returned_number (list.compared compared) }
 {
     match compared {
-        Compared::Listed(n) => n as i64,
-        Compared::Refused(refusal) => minus(book_list::number(refusal)),
+        Ok(n) => n as i64,
+        Err(refusal) => minus(u8::from(refusal)),
     }
 }
 
