@@ -23,7 +23,7 @@ fn numbered_after(n: u8, x: u8) -> u8
     if x < FIRST_FIELD { x } else { x + n }
 }
 
-// Symbols with their fields numbered after n others, at an offset. Returns the offset past them.
+// Symbols with their fields numbered after n others, at an offset. Returns the offset past them. The offset is counted, since a zip of the two slices is no plainer to prove.
 fn put_numbered(buf: &mut [u8], at: usize, n: u8, symbols: &[u8]) -> usize
     requires { (n ≤ 3) × All (λ x. x < 128 + 3) symbols.now × (at + length symbols.now ≤ length buf.old) }
     ensures { Puts buf.old at (map (numbered n) symbols.now) buf.new result }
@@ -34,7 +34,7 @@ fn put_numbered(buf: &mut [u8], at: usize, n: u8, symbols: &[u8]) -> usize
     at + symbols.len()
 }
 
-// The header, the letters and the limits. Returns the offset past them.
+// The header, the letters and the limits. Returns the offset past them. Each piece goes past the one before it, so the offset is handed on.
 fn put_head(buf: &mut [u8], letters: &[u8], left: &[u8], right: &[u8]) -> usize
     requires { (length letters.now ≤ 8) × (length left.now ≤ 3) × (length right.now ≤ 3) × (length (head_bytes letters.now left.now right.now) ≤ length buf.old) }
     ensures { Puts buf.old 0 (head_bytes letters.now left.now right.now) buf.new result }
