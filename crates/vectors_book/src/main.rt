@@ -4,11 +4,10 @@
 // heading and is printed as it is. The file stdout has document 02's answers.
 #![tactic(auto)]
 
-use book_list::Compared;
-use hexadecimal::{decode, find};
-use input::read_full;
+use book_list::Refusal;
+use hexadecimal::decode;
 use std::io;
-use vectors::{lent, next, room, show_bytes, show_refused};
+use vectors::{lent, run, show_bytes, show_refused};
 
 // Room for a book's bytes. Document 02 accepts none of more than 287.
 const BOOK: usize = 300;
@@ -21,43 +20,33 @@ const LENT: usize = 256;
 
 // Shows each vector of standard input, of which the first 65,536 bytes are read.
 fn main(rt: HostRuntime) -> io::Result<()> {
-    let mut buf = room();
-    let n = read_full(&mut rt.stdin(), &mut buf);
-    show_vectors(&rt, &buf[..n])
-}
-
-// Shows each vector of a text.
-fn show_vectors(rt: &impl Print, text: &[u8]) -> io::Result<()> {
-    let mut at = next(rt, text, 0)?;
-    while at < text.len() {
-        let end = find(text, at, b'\n');
-        show_vector(rt, &text[at..end])?;
-        at = next(rt, text, end + 1)?;
-    }
-    Ok(())
+    run(&rt, |vector| show_vector(&rt, vector))
 }
 
 // Prints the answer to a vector: a book, what stands after it, and the length of the lent buffer.
 fn show_vector(rt: &impl Print, text: &[u8]) -> io::Result<()> {
-    let middle = find(text, 0, b';');
+    let mut parts = text.splitn(2, |x| *x == b';');
     let mut book = [0u8; BOOK];
-    // The colon and the semicolons are no digits, and are passed over.
-    let n = decode(&text[..middle], &mut book);
-    show_book(rt, &book[..n], &text[middle..])
+    // The colon is no digit, and is passed over.
+    let n = decode(parts.next().unwrap_or(&[]), &mut book);
+    match parts.next() {
+        None => Ok(()),
+        Some(rest) => show_book(rt, &book[..n], rest),
+    }
 }
 
-// Prints the answer to a book, with what stands after it: with hours, if there are two semicolons.
+// Prints the answer to a book, with what stands after it: with hours, if there is another semicolon.
 fn show_book(rt: &impl Print, book: &[u8], text: &[u8]) -> io::Result<()> {
-    if text.len() == 0 {
-        return Ok(());
+    let mut parts = text.splitn(2, |x| *x == b';');
+    let first = parts.next().unwrap_or(&[]);
+    match parts.next() {
+        None => show_lent(rt, book, length(first)),
+        Some(asked) => {
+            let mut hours = [0u8; HOURS];
+            let n = decode(first, &mut hours);
+            show_hours(rt, book, &hours[..n], length(asked))
+        }
     }
-    let last = find(text, 1, b';');
-    if last == text.len() {
-        return show_lent(rt, book, length(text));
-    }
-    let mut hours = [0u8; HOURS];
-    let n = decode(&text[..last], &mut hours);
-    show_hours(rt, book, &hours[..n], length(&text[last..]))
 }
 
 // The length that a text gives.
@@ -92,10 +81,10 @@ fn show_scheduled(rt: &impl Print, book: &[u8], hours: &[u8], buf: &mut [u8]) ->
 }
 
 // Prints what comparing the templates answers.
-fn show_list(rt: &impl Print, compared: Compared) -> io::Result<()> {
+fn show_list(rt: &impl Print, compared: Result<usize, Refusal>) -> io::Result<()> {
     match compared {
-        Compared::Listed(n) => print!(rt; ": listed {n}"),
-        Compared::Refused(refusal) => show_refused(rt, book_list::number(refusal)),
+        Ok(n) => print!(rt; ": listed {n}"),
+        Err(refusal) => show_refused(rt, u8::from(refusal)),
     }
 }
 
