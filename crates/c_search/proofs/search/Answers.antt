@@ -2,7 +2,7 @@
 use mathlib.Core.Path.{◌≡◌, sym, ap, ◌∙◌}
 use lib.ListN.{length}
 use Rattle.calls.specs.Calls.{Answer, searching}
-use Rattle.automaton.specs.Answer.{searched}
+use Rattle.automaton.specs.Answer.{searched, verdict_of}
 use Rattle.c_answer.specs.Returned.{returned_number, Decided}
 use Rattle.c_answer.proofs.Negated.{minus_told}
 use Rattle.c_answer.proofs.Told.{decision-number}
@@ -20,10 +20,10 @@ call c e =
     (decision-number (searching a.sheet.now (length a.filling.now)) (sym e ∙ c.search.ensures.0), c.search.ensures.1)
 
 pub returns-in-Ok-Solution : goal.returns-in-Ok-Solution
-returns-in-Ok-Solution c = call c.before.before.before.before (ap searched c.in-Ok-Solution.is)
+returns-in-Ok-Solution c = call c.before.before.before.before (ap searched c.in-Ok-Solution.is ∙ ap verdict_of c.in-Ok-Solution.field-0-is)
 
 pub returns-in-Ok-Unsatisfiable : goal.returns-in-Ok-Unsatisfiable
-returns-in-Ok-Unsatisfiable c = call c.before.before.before.before (ap searched c.in-Ok-Unsatisfiable.is)
+returns-in-Ok-Unsatisfiable c = call c.before.before.before.before (ap searched c.in-Ok-Unsatisfiable.is ∙ ap verdict_of c.in-Ok-Unsatisfiable.field-0-is)
 
 pub returns-in-Err : goal.returns-in-Err
 returns-in-Err c =
