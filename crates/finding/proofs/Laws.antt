@@ -18,6 +18,9 @@ use Rattle.model.proofs.Lists.{by_test}
 use Rattle.model.proofs.Keeping.{total-more, total-none}
 use Rattle.formula.proofs.Totals.{place-before, field-total}
 use Rattle.formula.proofs.Finding.{some_at, not_both_at, tail_at, zero_at, add_at, bound_at}
+use Rattle.std.specs.Prelude.{Result, Ok, Err}
+use Rattle.literals.specs.declared.ClauseId.{ClauseId}
+use Rattle.finding.specs.Sought.{Sought}
 use Rattle.numbering.proofs.Laws.{number-few, read_back}
 use Rattle.counting.proofs.Laws.{constraint-known}
 use Rattle.model.proofs.Templates.{well_formed}
@@ -140,3 +143,12 @@ module _ (s : Sheet) (ok : InRange s) (r : ℕ) (hr : r < length s.constraints) 
           (read_back s ok r hr v (omega arith) (w + rest) bound_below q e ∙ ap₂ (λ j z. least s (constraint s r) j +ℤ pos (z + rest)) ev ew)
           ∙ sym (bound_at s (well_formed s ok) r hr rest left_over)
           ∙ ap (λ z. id_at s z) (omega (arith, steps))
+
+-- Clauses after others: what is found among the first, and what is found past them.
+module _ (s : Sheet) (start size n : ℕ) where
+  pub sought_first : (more : ℕ) (q : ClauseId) → Sought s start size n (Ok q) → Sought s start (size + more) n (Ok q)
+  sought_first more q h = (omega (arith, h.0), h.1)
+
+  pub sought_later : (k more : ℕ) (r : Result ClauseId ℕ) → Sought s start size n (Err k) → Sought s (start + size) more k r → Sought s start (size + more) n r
+  sought_later k more (Ok q) e h = (omega (arith, h.0), same_number s _ (start + size + k) (start + n) h.1 (omega arith))
+  sought_later k more (Err j) e h = omega arith
