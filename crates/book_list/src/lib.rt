@@ -59,7 +59,8 @@ const ROW: usize = 16;
 
 pub const TABLE: usize = 256;
 
-// Templates i and j, if they are wanted and clash, at an offset. Returns the offset past them.
+// Templates i and j, if they are wanted and clash, at an offset. Returns the offset past them. List and verdicts are written, the table and the book read: a struct
+// of these references would be no plainer. A `usize` has no `u8::from`; that both fit is proved.
 fn put_pair(
     list: &mut [u8],
     at: usize,

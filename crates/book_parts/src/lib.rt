@@ -43,7 +43,7 @@ fn template_at(book: &[u8], i: usize) -> usize
     at
 }
 
-// The limits of template i.
+// The limits of template i. Callers want limits or symbols, so that one struct of both would be no plainer.
 pub fn limits(book: &[u8], i: usize) -> &[u8]
     requires { Admitted book.now × (i < length (book_of book.now).templates) }
     ensures { result.now ≡ (model.template (book_of book.now) i).limits }

@@ -10,7 +10,8 @@ ghost use Rattle.c_book.specs.Few.{Few};
 use book_list::Refusal;
 use c_answer::minus;
 
-// What a list's answer returns: how many pairs there are, or minus a refusal's number.
+// What a list's answer returns: how many pairs there are, or minus a refusal's number. A `usize` has no `i64::from`; that it fits is proved, here and in the other
+// calls.
 pub fn counted(compared: Result<usize, Refusal>) -> i64
     requires { Few compared }
     ensures { result ≡ returned_number (list.compared compared) }

@@ -40,7 +40,7 @@ fn rename_field<F: Fn(u8) -> u8 + Copy>(t: Field, by: F) -> Field
 }
 
 // A renaming of all places: what `by` computes is applied to each.
-pub fn rename<F: Fn(u8) -> u8 + Copy>(g: Substitution, by: F) -> Substitution
+fn rename<F: Fn(u8) -> u8 + Copy>(g: Substitution, by: F) -> Substitution
     requires { F.IsAlwaysCallable by }
     ensures { (s : ℕ → ℕ) → Computes (F.post by) s → result ≡ app s g }
 {
@@ -52,7 +52,7 @@ pub fn rename<F: Fn(u8) -> u8 + Copy>(g: Substitution, by: F) -> Substitution
 }
 
 // Name u becomes v, another name or a letter.
-fn replace(g: Substitution, u: u8, v: u8) -> Substitution
+pub fn replace(g: Substitution, u: u8, v: u8) -> Substitution
     ensures { result ≡ app (repl u v) g }
 {
     rename(g, |x| if x == u { v } else { x })
