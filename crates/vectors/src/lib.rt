@@ -4,6 +4,7 @@
 
 ghost use Rattle.std.specs.Prelude.{◌≡◌, ◌≤◌, length, min, take};
 
+pub use hexadecimal::decode;
 use input::read_full;
 use scan::find;
 use std::io;

@@ -5,9 +5,8 @@
 #![tactic(auto)]
 
 use book_list::Refusal;
-use hexadecimal::decode;
 use std::io;
-use vectors::{lent, run, show_bytes, show_refused};
+use vectors::{decode, lent, run, show_bytes, show_refused};
 
 // Room for a book's bytes. Document 02 accepts none of more than 287.
 const BOOK: usize = 300;

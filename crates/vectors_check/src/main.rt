@@ -12,12 +12,11 @@ ghost use Rattle.std.specs.Prelude.{◌≡◌, [], ◌∷◌, ◌+◌, ◌≤◌
 ghost use Rattle.calls.specs.Calls.{finished, checking};
 
 use fields::MOST_BYTES;
-use hexadecimal::decode;
 use judge::Judgement;
 use mismatch::Mismatch;
 use report::MOST_REPORT;
 use std::io;
-use vectors::{lent, run, show_refused};
+use vectors::{decode, lent, run, show_refused};
 
 // Room for a sheet's or a filling's bytes. Document 01 accepts none of more than 159; some vectors
 // have just over 256, so that a length that is kept in one byte would show.

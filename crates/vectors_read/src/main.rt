@@ -4,9 +4,8 @@
 // a heading and is printed as it is. The file stdout has document 01's answers.
 #![tactic(auto)]
 
-use hexadecimal::decode;
 use std::io;
-use vectors::{run, show_refused};
+use vectors::{decode, run, show_refused};
 
 // Room for a sheet's bytes. Document 01 accepts none of more than 159.
 const ROOM: usize = 256;

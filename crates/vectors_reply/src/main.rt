@@ -8,9 +8,8 @@
 
 ghost use Rattle.std.specs.Prelude.{◌≡◌, ◌≤◌, length, take};
 
-use hexadecimal::decode;
 use std::io;
-use vectors::{lent, run, show_bytes, show_refused};
+use vectors::{decode, lent, run, show_bytes, show_refused};
 
 // Room for a sheet's bytes. Document 01 accepts none of more than 159.
 const SHEET: usize = 256;
