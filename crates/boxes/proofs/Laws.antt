@@ -14,7 +14,7 @@ use Rattle.std.specs.Prelude.{Option, Some, None, is_some, IsSome, IsNone}
 use Rattle.std.specs.declared.result.Result.TheVariants.{Ok, Err}
 use Rattle.fields.specs.declared.Field.{Field}
 use Rattle.trails.specs.Equations.{Equation, equations}
-use Rattle.trails.specs.Attempt.{attempt_of}
+use Rattle.trails.specs.Attempt.{answer_of}
 use Rattle.inequalities.specs.Rows.{side_sum, row_holds, hopeless_row, rows_hold, Within}
 use Rattle.inequalities.proofs.Boxes.{hopeful_row}
 use Rattle.bounds.specs.declared.Ranges.{Ranges}
@@ -23,6 +23,7 @@ use Rattle.bounds.proofs.Sums.{sum_grows}
 use Rattle.bounds.proofs.Excluded.{hopeless_excludes}
 use Rattle.bounds.proofs.Widest.{Same, total-closed, vector-within, empty_none-total}
 use Rattle.trails.specs.declared.Board.{Board}
+use Rattle.trails.specs.declared.Halt.{Halt}
 use Rattle.trails.specs.Board.{narrow_of, Watches}
 use Rattle.trails.proofs.Boards.{smaller_watches, narrow_watches, narrow_none}
 use Rattle.boxes.specs.declared.Left.{Left}
@@ -53,7 +54,7 @@ module _ (es back : List Equation) (rows : List ℕ) (count : ℕ) (lo hi : List
 
   module _ (b : Board) (twins : Twins es back lo hi) (watches : Watches es back lo hi b) (r : Ranges) (widest : Widest (ClosedTotal t u rows count) lo hi r.lo r.hi) where
     kept : (m : List ℕ) → Box lo hi t u m → IsSome (try_of es rows count m) → Within r.lo r.hi m
-    kept m c won = vector-within (ClosedTotal t u rows count) lo hi r m widest c.0 (total-closed t u rows count m c.1 c.2 (try_out es rows count m won).rows_hold)
+    kept m c won = vector-within (ClosedTotal t u rows count) lo hi (Some r) m widest c.0 (total-closed t u rows count m c.1 c.2 (try_out es rows count m won).rows_hold)
 
     inside : (m : List ℕ) → Within r.lo r.hi m → Within lo hi m
     inside = inner lo hi r.lo r.hi widest.inside
@@ -71,7 +72,7 @@ module _ (es back : List Equation) (rows : List ℕ) (count : ℕ) (lo hi : List
     }
 
     -- one of them fails
-    pub cut_off : (q : ℕ) → narrow_of es back b r.lo r.hi ≡ Err q → Nothing es rows count lo hi t u
+    pub cut_off : (q : Halt) → narrow_of es back b r.lo r.hi ≡ Err q → Nothing es rows count lo hi t u
     cut_off q is m d = by_test (is_some (try_of es rows count m))
         (λ won.
         let i = kept m d won in
@@ -130,13 +131,13 @@ module _ (es back : List Equation) (rows : List ℕ) (count : ℕ) (lo hi : List
         totals : (t ≤ sum_of n) × (sum_of n ≤ best.below - 1)
         totals = total-told t (best.below - 1) n (closed-holds (total_rows t (best.below - 1)) 2 n left.ranges.hi s smaller.closed.0)
 
-        tried : attempt_of es n ≡ try n
+        tried : answer_of es n ≡ try n
         tried = tries es rows count n (closed-holds rows count n left.ranges.hi s smaller.closed.1)
 
-        failing : attempt_of es n ≡ None → (m : List ℕ) → Within n left.ranges.hi m → IsNone (try m)
+        failing : answer_of es n ≡ None → (m : List ℕ) → Within n left.ranges.hi m → IsNone (try m)
         failing e m c = ap (λ (z : Option (List Field)). is_some z) (try_same es rows count m n (same m c) ∙ sym tried ∙ e)
 
-        told : (g : List Field) → attempt_of es n ≡ Some g → Betters try lo hi t shortest best (record { found = Some g; below = pick shortest (sum_of n) 0 })
+        told : (g : List Field) → answer_of es n ≡ Some g → Betters try lo hi t shortest best (record { found = Some g; below = pick shortest (sum_of n) 0 })
         told g e = record {
           lower = by_test shortest (λ y. rw y (omega (arith, totals.1))) (λ y. rw y (omega arith));
           none = λ m c low high. by_test shortest
@@ -154,10 +155,10 @@ module _ (es back : List Equation) (rows : List ℕ) (count : ℕ) (lo hi : List
           });
         }
 
-        pub at_one : (r : Best) → r ≡ taken (attempt_of es n) (sum_of n) best shortest → Betters try lo hi t shortest best r
-        at_one r is = subst (Betters try lo hi t shortest best) (sym is) (by (attempt_of es n) refl)
+        pub at_one : (r : Best) → r ≡ taken (answer_of es n) (sum_of n) best shortest → Betters try lo hi t shortest best r
+        at_one r is = subst (Betters try lo hi t shortest best) (sym is) (by (answer_of es n) refl)
           where
-            by : (o : Option (List Field)) → attempt_of es n ≡ o → Betters try lo hi t shortest best (taken o (sum_of n) best shortest)
+            by : (o : Option (List Field)) → answer_of es n ≡ o → Betters try lo hi t shortest best (taken o (sum_of n) best shortest)
             by None e = stays try lo hi t shortest best (λ m c low high. back_in m c low high (failing e m))
             by (Some g) e = told g e
 

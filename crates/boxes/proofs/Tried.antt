@@ -11,7 +11,7 @@ use Rattle.model.proofs.Lists.{never}
 use Rattle.model.proofs.Keeping.{all_same}
 use Rattle.trails.specs.Equations.{Equation}
 use Rattle.walk.specs.Reading.{start_of}
-use Rattle.trails.specs.Attempt.{attempt_of}
+use Rattle.trails.specs.Attempt.{attempt_of, answer_of}
 use Rattle.inequalities.specs.Rows.{row_holds, rows_hold}
 use Rattle.inequalities.proofs.Boxes.{side_same}
 use Rattle.bounds.proofs.Widest.{Same}
@@ -32,15 +32,15 @@ module _ (es : List Equation) (rows : List ℕ) (count : ℕ) where
   unfolding try_of attempt_of
   try_same a b h = rw (rows_same rows count a b h, start-same a b h)
 
-  pub tries : (m : List ℕ) → rows_hold rows count m ≡ true → attempt_of es m ≡ try_of es rows count m
+  pub tries : (m : List ℕ) → rows_hold rows count m ≡ true → answer_of es m ≡ try_of es rows count m
   unfolding try_of
   tries m h = rw h
 
   -- what a success says, and what it takes
   pub record Tried (m : List ℕ) : Type 0 where
     pub rows_hold : rows_hold rows count m ≡ true
-    pub attempted : IsSome (attempt_of es m)
-    pub is : try_of es rows count m ≡ attempt_of es m
+    pub attempted : IsSome (answer_of es m)
+    pub is : try_of es rows count m ≡ answer_of es m
 
   pub try_out : (m : List ℕ) → IsSome (try_of es rows count m) → Tried m
   unfolding try_of
@@ -50,6 +50,6 @@ module _ (es : List Equation) (rows : List ℕ) (count : ℕ) where
       by true t = record { rows_hold = t; attempted = rw t at e; is = rw t }
       by false t = never (rw t at e)
 
-  pub try_in : (m : List ℕ) → rows_hold rows count m ≡ true → IsSome (attempt_of es m) → IsSome (try_of es rows count m)
+  pub try_in : (m : List ℕ) → rows_hold rows count m ≡ true → IsSome (answer_of es m) → IsSome (try_of es rows count m)
   unfolding try_of
   try_in m r e = rw r e

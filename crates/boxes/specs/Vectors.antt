@@ -3,7 +3,7 @@ use Rattle.std.specs.Prelude.{◌≡◌, Bool, true, false, Option, None, IsSome
 use Rattle.model.specs.Lists.{pick}
 use Rattle.fields.specs.declared.Field.{Field}
 use Rattle.trails.specs.Equations.{Equation}
-use Rattle.trails.specs.Attempt.{attempt_of}
+use Rattle.trails.specs.Attempt.{answer_of}
 use Rattle.inequalities.specs.Rows.{Within, rows_hold}
 use Rattle.bounds.specs.Bounds.{sum_of}
 
@@ -44,4 +44,4 @@ pub record First (try : List ℕ → Option (List Field)) (C : List ℕ → Type
 
 -- what is tried at a vector: an attempt, where the rows hold
 unfoldable pub try_of : List Equation → List ℕ → ℕ → List ℕ → Option (List Field)
-try_of es rows count m = pick (rows_hold rows count m) (attempt_of es m) None
+try_of es rows count m = pick (rows_hold rows count m) (answer_of es m) None

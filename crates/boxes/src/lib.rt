@@ -6,7 +6,7 @@
 ghost use Rattle.std.specs.Prelude.{◌≡◌, ◌≤◌, length};
 ghost use Rattle.walk.specs.Walk.{Cells};
 ghost use Rattle.trails.specs.Equations.{equations, cell_total};
-ghost use Rattle.trails.specs.Attempt.{attempt_of};
+ghost use Rattle.trails.specs.Attempt.{answer_of};
 ghost use Rattle.bounds.specs.Bounds.{sum_of, Some};
 ghost use Rattle.trails.specs.Board.{Watches};
 ghost use Rattle.boxes.specs.Vectors.{try_of};
@@ -69,9 +69,9 @@ fn shrink(p: &Problem<'_>, b: Board, ranges: Ranges, t: u16, u: u16, last: u8) -
 
 // A box of one vector: an attempt there.
 fn at_vector(p: &Problem<'_>, n: Lengths, best: Best, shortest: bool) -> Best
-    ensures { result ≡ taken (attempt_of (equations p.now.x.now p.now.w.now) n) (sum_of n) best shortest }
+    ensures { result ≡ taken (answer_of (equations p.now.x.now p.now.w.now) n) (sum_of n) best shortest }
 {
-    let found = trails::attempt(p.x, p.w, n);
+    let found = trails::attempt(p.x, p.w, n).ok();
     if found.is_none() {
         return best;
     }

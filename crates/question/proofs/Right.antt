@@ -27,7 +27,7 @@ use Rattle.unification.specs.Names.{app, value_of}
 use Rattle.unification.proofs.Laws.{by_lt}
 use Rattle.walk.specs.Reading.{texts}
 use Rattle.trails.specs.Equations.{Equation, Solves}
-use Rattle.trails.specs.Attempt.{attempt_of}
+use Rattle.trails.specs.Attempt.{answer_of}
 use Rattle.trails.proofs.Attempts.{Instance, attempt_sound, attempt_complete, attempt_least}
 use Rattle.inequalities.specs.Asked.{asked, lengths_of, sides_agree, lengths_agree}
 use Rattle.inequalities.specs.Rows.{Within, rows_hold}
@@ -110,7 +110,7 @@ module _ (b : List ℕ) (ok : Admitted b) (a : Ask) (asking : Asking (sheet_of b
         (attempt_complete es (lengths_of g) (reader g) (memory_refines b ok g h.is_legal) memory_solves)
 
     -- an attempt at its lengths has a higher letter nowhere
-    attempt_lower : (w : List ℕ) → Same (lengths_of g) w → (r : List Field) → attempt_of es w ≡ option.Some r → (u : ℕ) → value_of r u ≤ value_of memory u
+    attempt_lower : (w : List ℕ) → Same (lengths_of g) w → (r : List Field) → answer_of es w ≡ option.Some r → (u : ℕ) → value_of r u ≤ value_of memory u
     attempt_lower w e r is u =
         let start = ap (app (reader g)) (start-same (lengths_of g) w e) in
         rw start (attempt_least es w (reader g) (memory_refines b ok g h.is_legal) (subst (Solves es) start memory_solves) r is u)
@@ -126,7 +126,7 @@ module _ (b : List ℕ) (ok : Admitted b) (a : Ask) (asking : Asking (sheet_of b
     tried : Tried es rows count w
     tried = try_out es rows count w (ap is_some (sym hit.is))
 
-    is_attempt : attempt_of es w ≡ option.Some r
+    is_attempt : answer_of es w ≡ option.Some r
     is_attempt = sym (hit.is ∙ tried.is)
 
     sound : Instance l w r × Solves es r

@@ -3,17 +3,17 @@
 use mathlib.Core.Path.{◌≡◌, refl, sym, ap, subst, fun_ext, ◌∙◌}
 use mathlib.Core.Bool.{Bool, true, false}
 use mathlib.Core.List.{List, [], ◌∷◌, map, map-map, map-id}
-use Rattle.std.specs.Prelude.{Option, Some, None}
+use Rattle.std.specs.declared.result.Result.{Result}
+use Rattle.std.specs.declared.result.Result.TheVariants.{Ok, Err}
 use Prim.Native.Nat.{ℕ, zero, suc, ◌-◌, ◌/◌, ◌%◌, ◌<◌, ◌≤◌}
 use native.Mathlib.Omega.{arith}
 use lib.ListN.{get_or}
-use Rattle.std.proofs.lemmas.Option.{none-some, same_Some}
 use lib.Dec.{ltb, eqb}
 use borrow.Author.Tests.{ltb-true, ltb-false, eqb-true, eqb-false, eq-eqb, ne_eqb, lt-ltb, le-ltb}
 use Rattle.model.specs.Lists.{pick}
 use Rattle.model.proofs.Lists.{by_test}
 use Rattle.fields.specs.declared.Field.{Field}
-use Rattle.unification.specs.Names.{repl, settle, map_field, app, place_of, value_of, unify_of, Below, Inside, Refining}
+use Rattle.unification.specs.Names.{repl, settle, map_field, app, place_of, value_of, either, unify_of, Below, Inside, Refining}
 
 -- what holds of both arms holds of the one that is picked
 pub pick_ind : {A : Type 0} (P : A → Type 0) (b : Bool) {x y : A} → (b ≡ true → P x) → (b ≡ false → P y) → P (pick b x y)
@@ -118,8 +118,19 @@ value-app s p g u = by_lt u 8
 pub value_renamed : {g h : List Field} (k : Renamed g h) (u : ℕ) → value_of h u ≡ k.by (value_of g u)
 value_renamed {g} k u = rw k.is (value-app k.by k.refines g u)
 
+-- what a result says, where it is told
+pub same_ok : {A E : Type 0} (x y : A) → ◌≡◌ {A = Result A E} (Ok x) (Ok y) → x ≡ y
+same_ok x y e = cc
+
+pub err-ok : {A E P : Type 0} (x : A) (q : E) → ◌≡◌ {A = Result A E} (Err q) (Ok x) → P
+err-ok x q e = cc
+
+-- what holds of what is told, failed or not, holds of it where nothing failed
+pub of_ok : {A : Type 0} (P : A → Type 0) (r : Result A A) → P (either r) → (x : A) → r ≡ Ok x → P x
+of_ok P r k x e = subst (λ z. P (either z)) e k
+
 -- the cases of unification: the two values are the same, or are two letters that differ, or one is a name and becomes the other
-pub unify_cases : (P : Option (List Field) → Type 0) (g : List Field) (u v : ℕ) → (u ≡ v → P (Some g)) → ((u ≡ v → ⊥) → u < 8 → v < 8 → P None) → ((u ≡ v → ⊥) → 8 ≤ u → P (Some (app (repl u v) g))) → ((v ≡ u → ⊥) → 8 ≤ v → P (Some (app (repl v u) g))) → P (unify_of g u v)
+pub unify_cases : (P : Result (List Field) (List Field) → Type 0) (g : List Field) (u v : ℕ) → (u ≡ v → P (Ok g)) → ((u ≡ v → ⊥) → u < 8 → v < 8 → P (Err g)) → ((u ≡ v → ⊥) → 8 ≤ u → P (Ok (app (repl u v) g))) → ((v ≡ u → ⊥) → 8 ≤ v → P (Ok (app (repl v u) g))) → P (unify_of g u v)
 unfolding unify_of
 unify_cases P g u v same differ left right =
     pick_ind P (eqb u v) (λ t. same (eqb-true u v t))
@@ -129,13 +140,13 @@ unify_cases P g u v same differ left right =
     (λ a. left n (ltb-false u 8 a)))
 
 -- what holds of g, and of g under the replacement of one of the two values by the other, holds of what unification answers
-pub unified_by : (P : List Field → Type 0) (g : List Field) (u v : ℕ) → (u ≡ v → P g) → ((u ≡ v → ⊥) → 8 ≤ u → P (app (repl u v) g)) → ((v ≡ u → ⊥) → 8 ≤ v → P (app (repl v u) g)) → (h : List Field) → unify_of g u v ≡ Some h → P h
+pub unified_by : (P : List Field → Type 0) (g : List Field) (u v : ℕ) → (u ≡ v → P g) → ((u ≡ v → ⊥) → 8 ≤ u → P (app (repl u v) g)) → ((v ≡ u → ⊥) → 8 ≤ v → P (app (repl v u) g)) → (h : List Field) → unify_of g u v ≡ Ok h → P h
 unified_by P g u v same left right =
-    unify_cases (λ r. (h : List Field) → r ≡ Some h → P h) g u v
-    (λ k h e. subst P (same_Some _ _ e) (same k))
-    (λ d a b h e. absurd (none-some h e))
-    (λ d k h e. subst P (same_Some _ _ e) (left d k))
-    (λ d k h e. subst P (same_Some _ _ e) (right d k))
+    unify_cases (λ r. (h : List Field) → r ≡ Ok h → P h) g u v
+    (λ k h e. subst P (same_ok _ _ e) (same k))
+    (λ d a b h e. err-ok h g e)
+    (λ d k h e. subst P (same_ok _ _ e) (left d k))
+    (λ d k h e. subst P (same_ok _ _ e) (right d k))
 
 -- unification is sound: what it answers is g under a renaming that makes u and v the same
 pub record Unified (g : List Field) (u v : ℕ) (h : List Field) : Type 0 where
@@ -151,7 +162,7 @@ repl_unifies g u v n m d h = record {
 exchanged : {g h : List Field} {u v : ℕ} → Unified g u v h → Unified g v u h
 exchanged r = record { how = r.how; joins = sym r.joins }
 
-pub unify_sound : (g : List Field) (u v : ℕ) → (u ≡ 255 → ⊥) → (v ≡ 255 → ⊥) → (h : List Field) → unify_of g u v ≡ Some h → Unified g u v h
+pub unify_sound : (g : List Field) (u v : ℕ) → (u ≡ 255 → ⊥) → (v ≡ 255 → ⊥) → (h : List Field) → unify_of g u v ≡ Ok h → Unified g u v h
 unfolding unchanged
 unify_sound g u v n m =
     unified_by (Unified g u v) g u v
@@ -165,9 +176,9 @@ repl_absorbed s u v e g =
     app-app (repl u v) s g ∙ ap (λ (r : ℕ → ℕ). app r g) (fun_ext (λ x. pick_ind (λ z. s z ≡ s x) (eqb x u) (λ t. sym e ∙ ap s (sym (eqb-true x u t))) (λ t. refl)))
 
 -- unification is complete: where a renaming makes u and v the same, it succeeds, and that renaming does not see what it did
-pub unify_complete : (g : List Field) (u v : ℕ) (s : ℕ → ℕ) → Refining s → s u ≡ s v → (h : List Field) × (unify_of g u v ≡ Some h) × (app s h ≡ app s g)
+pub unify_complete : (g : List Field) (u v : ℕ) (s : ℕ → ℕ) → Refining s → s u ≡ s v → (h : List Field) × (unify_of g u v ≡ Ok h) × (app s h ≡ app s g)
 unify_complete g u v s p e =
-    unify_cases (λ r. (h : List Field) × (r ≡ Some h) × (app s h ≡ app s g)) g u v
+    unify_cases (λ r. (h : List Field) × (r ≡ Ok h) × (app s h ≡ app s g)) g u v
     (λ _. (g, refl, refl))
     (λ d a b. absurd (d (sym (p.letter u a) ∙ e ∙ p.letter v b)))
     (λ d h. (app (repl u v) g, refl, repl_absorbed s u v e g))
@@ -177,9 +188,10 @@ unify_complete g u v s p e =
 inside-repl : (l : ℕ) (g : List Field) (u v : ℕ) → Inside l g → (u ≡ 255 → ⊥) → (v ≡ 255 → ⊥) → Below l v → 8 ≤ u → Inside l (app (repl u v) g)
 inside-repl l g u v ins n m b h w k = rw (value-app (repl u v) (repl_refines u v h n m) g w) (pick_ind (Below l) (eqb (value_of g w) u) (λ t. b) (λ t. ins w k))
 
-pub unify_inside : (l : ℕ) (g : List Field) (u v : ℕ) → Inside l g → (u ≡ 255 → ⊥) → (v ≡ 255 → ⊥) → Below l u → Below l v → (h : List Field) → unify_of g u v ≡ Some h → Inside l h
+pub unify_inside : (l : ℕ) (g : List Field) (u v : ℕ) → Inside l g → (u ≡ 255 → ⊥) → (v ≡ 255 → ⊥) → Below l u → Below l v → Inside l (either (unify_of g u v))
 unify_inside l g u v ins n m p q =
-    unified_by (Inside l) g u v
+    unify_cases (λ r. Inside l (either r)) g u v
     (λ _. ins)
+    (λ d a b. ins)
     (λ d h. inside-repl l g u v ins n m q h)
     (λ d h. inside-repl l g v u ins m n p h)

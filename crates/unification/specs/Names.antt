@@ -1,5 +1,7 @@
 -- Substitutions with names, what cells hold under them, and unification of two values.
-use Rattle.std.specs.Prelude.{◌≡◌, ℕ, ◌-◌, ◌/◌, ◌%◌, ◌<◌, ◌≤◌, Option, Some, None, List, [], map, get_or, ltb, eqb}
+use Rattle.std.specs.Prelude.{◌≡◌, ℕ, ◌-◌, ◌/◌, ◌%◌, ◌<◌, ◌≤◌, List, [], map, get_or, ltb, eqb}
+use Rattle.std.specs.declared.result.Result.{Result}
+use Rattle.std.specs.declared.result.Result.TheVariants.{Ok, Err}
 use Rattle.model.specs.Lists.{pick}
 use Rattle.fields.specs.declared.Field.{Field}
 use Rattle.fields.specs.Memory.{field}
@@ -34,12 +36,17 @@ place_of g f c = get_or (field g f).letters c 0
 unfoldable pub value_of : List Field → ℕ → ℕ
 value_of g u = pick (ltb u 8) u (place_of g ((u - 8) / 8) ((u - 8) % 8))
 
--- the most general way to make u and v, letters or names, the same; none where they are two letters that differ
-unfoldable pub unify_of : List Field → ℕ → ℕ → Option (List Field)
+-- what a call tells, failed or not
+abbrev pub either : {A : Type 0} → Result A A → A
+either (Ok x) = x
+either (Err x) = x
+
+-- the most general way to make u and v, letters or names, the same; g as it was, where they are two letters that differ
+unfoldable pub unify_of : List Field → ℕ → ℕ → Result (List Field) (List Field)
 unify_of g u v =
-    pick (eqb u v) (Some g)
-    (pick (ltb u 8) (pick (ltb v 8) None (Some (app (repl v u) g)))
-    (Some (app (repl u v) g)))
+    pick (eqb u v) (Ok g)
+    (pick (ltb u 8) (pick (ltb v 8) (Err g) (Ok (app (repl v u) g)))
+    (Ok (app (repl u v) g)))
 
 -- x is a letter below l, or no letter
 abbrev pub Below : ℕ → ℕ → Type 0

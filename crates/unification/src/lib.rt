@@ -77,17 +77,17 @@ pub fn value(g: Substitution, u: u8) -> u8
     g[usize::from(at / shape::PLACES)].letters[usize::from(at % shape::PLACES)]
 }
 
-// Makes the values u and v, letters or names, the same in the most general way; or fails, where they are two letters that differ.
-pub fn unify(g: Substitution, u: u8, v: u8) -> Option<Substitution>
+// Makes the values u and v, letters or names, the same in the most general way; or fails, and gives g back, where they are two letters that differ.
+pub fn unify(g: Substitution, u: u8, v: u8) -> Result<Substitution, Substitution>
     ensures { result ≡ unify_of g u v }
 {
     if u == v {
-        Some(g)
+        Ok(g)
     } else if u >= FIRST_PLACE {
-        Some(replace(g, u, v))
+        Ok(replace(g, u, v))
     } else if v >= FIRST_PLACE {
-        Some(replace(g, v, u))
+        Ok(replace(g, v, u))
     } else {
-        None
+        Err(g)
     }
 }

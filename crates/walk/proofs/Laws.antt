@@ -15,17 +15,12 @@ use Rattle.model.specs.Lists.{pick}
 use Rattle.model.proofs.Lists.{by_test}
 use Rattle.model.proofs.Seams.{tail_lent}
 use Rattle.fields.specs.declared.Field.{Field}
-use Rattle.std.specs.Prelude.{Option, Some, None}
-use Rattle.std.specs.Bool.{then_some}
-use Rattle.unification.specs.Names.{repl, app, value_of, unify_of}
-use Rattle.unification.proofs.Laws.{pick_ind, unified_by}
+use Rattle.std.specs.declared.result.Result.{Result}
+use Rattle.std.specs.declared.result.Result.TheVariants.{Ok, Err}
+use Rattle.unification.specs.Names.{repl, app, value_of, either, unify_of}
+use Rattle.unification.proofs.Laws.{pick_ind, unify_cases}
 use Rattle.walk.specs.declared.Walked.{Walked}
 use Rattle.walk.specs.Walk.{Cells, named, names, undecided, Skipped, Reached, reached, may_end, alike_of, waits_of, onward, walk_in, told, walk_on}
-
--- a value, if the test says so
-pub some_if : {A : Type 0} (o : Bool) (x : A) → then_some o x ≡ pick o (Some x) None
-some_if true x = refl
-some_if false x = refl
 
 -- a stretch of cells
 cells-take : (k : ℕ) (a : List ℕ) → Cells a → Cells (take k a)
@@ -65,10 +60,11 @@ unfolding undecided app
 undecided-repl u v h n [] = omega arith
 undecided-repl u v h n (t ∷ g) = let one = names-repl u v h n t.letters in let ih = undecided-repl u v h n g in omega arith
 
-undecided_unify : (g : List Field) (u v : ℕ) → (u ≡ 255 → ⊥) → (v ≡ 255 → ⊥) → (h : List Field) → unify_of g u v ≡ Some h → undecided h ≤ undecided g
+undecided_unify : (g : List Field) (u v : ℕ) → (u ≡ 255 → ⊥) → (v ≡ 255 → ⊥) → undecided (either (unify_of g u v)) ≤ undecided g
 undecided_unify g u v n m =
-    unified_by (λ h. undecided h ≤ undecided g) g u v
+    unify_cases (λ r. undecided (either r) ≤ undecided g) g u v
     (λ e. omega arith)
+    (λ d a b. omega arith)
     (λ d h. undecided-repl u v h n g)
     (λ d h. undecided-repl v u h m g)
 
@@ -96,7 +92,7 @@ blank-right (u ∷ a) v b g e = by (ℕ_discrete (value_of g u) 255) (blank-righ
     by (no n) ih = simp (ne_eqb _ _ n, eq-eqb _ _ e)
 
 -- and so may any number of them
-past_blanks : (W : List ℕ → Option Reached) (g : List Field) → ((u : ℕ) (a : List ℕ) → value_of g u ≡ 255 → W a ≡ W (u ∷ a)) → (a : List ℕ) (from i : ℕ) → from ≤ i → i ≤ length a → ((k : ℕ) → from ≤ k → k < i → value_of g (get_or a k 0) ≡ 255) → W (drop i a) ≡ W (drop from a)
+past_blanks : (W : List ℕ → Result Reached Reached) (g : List Field) → ((u : ℕ) (a : List ℕ) → value_of g u ≡ 255 → W a ≡ W (u ∷ a)) → (a : List ℕ) (from i : ℕ) → from ≤ i → i ≤ length a → ((k : ℕ) → from ≤ k → k < i → value_of g (get_or a k 0) ≡ 255) → W (drop i a) ≡ W (drop from a)
 past_blanks W g one a from zero l h e = let z : from ≡ 0 = omega arith in rw z
 past_blanks W g one a from (suc i) l h e = by (ℕ_discrete from (suc i)) (past_blanks W g one a from i)
   where
@@ -127,7 +123,7 @@ module _ {a : List ℕ} {g : List Field} {from i : ℕ} (s : Skipped g a from i)
   solid-left = s.solid in_range
 
 -- what the code asks of two cells, test by test
-test_by_test : (x y u v : ℕ) (pass wait meet : Option Reached) → (u ≡ v → meet ≡ pass)
+test_by_test : (x y u v : ℕ) (pass wait meet : Result Reached Reached) → (u ≡ v → meet ≡ pass)
     → pick (alike_of x y u v) pass (pick (waits_of u v) wait meet) ≡ pick (eqb x y) pass (pick (eqb u 254) wait (pick (eqb v 254) wait meet))
 test_by_test x y u v pass wait meet same =
     by_test (eqb x y) (λ t. rw t)
@@ -136,6 +132,11 @@ test_by_test x y u v pass wait meet same =
     (λ t. let e = eqb-true u v t in rw (d, o, t, ne_eqb v 254 (λ z. eqb-false u 254 o (e ∙ z))) (sym (same e)))
     (λ t. rw (d, o, t))))
 
+-- nothing was unified: the walk stops
+stopped : (r : Result (List Field) (List Field)) → ((h : List Field) → r ≡ Ok h → ⊥) → (go : List Field → Result Reached Reached) (stop : Result Reached Reached) → onward r go stop ≡ stop
+stopped (Err h) none go stop = refl
+stopped (Ok h) none go stop = absurd (none h refl)
+
 -- The code stands past the blanks of both sides, and answers as the walk from the start does.
 module _ {a b : List ℕ} {g : List Field} {from to i j : ℕ} (s : Skipped g a from i) (t : Skipped g b to j) where
   skipped : walk_in (drop i a) (drop j b) g ≡ walk_in (drop from a) (drop to b) g
@@ -143,13 +144,16 @@ module _ {a b : List ℕ} {g : List Field} {from to i j : ℕ} (s : Skipped g a 
       past_blanks (λ z. walk_in (drop i a) z g) g (λ v z. blank-right (drop i a) v z g) b to j t.past t.within t.blank
       ∙ past_blanks (λ z. walk_in z (drop to b) g) g (λ u z. blank-left u z (drop to b) g) a from i s.past s.within s.blank
 
-  -- the walk stops here, if it has not failed
-  abbrev here : Bool → Option Walked
-  here o = pick o (Some (record { left = i; right = j; substitution = g })) None
+  -- the walk stops here
+  abbrev at_here : Walked
+  at_here = record { left = i; right = j; substitution = g }
+
+  abbrev here : Bool → Result Walked Walked
+  here o = pick o (Ok at_here) (Err at_here)
 
   told_here : (o : Bool) → here o ≡ told a b (reached o (drop i a) (drop j b) g)
   told_here true = rw (passed a i s.within, passed b j t.within)
-  told_here false = refl
+  told_here false = rw (passed a i s.within, passed b j t.within)
 
   stops : (o : Bool) → walk_in (drop i a) (drop j b) g ≡ reached o (drop i a) (drop j b) g → here o ≡ walk_on a b from to g
   unfolding walk_on
@@ -171,16 +175,16 @@ module _ {a b : List ℕ} {g : List Field} {from to i j : ℕ} (s : Skipped g a 
 
     -- on both sides a cell is left that is not blank; they hold u and v
     module _ (q : j ≡ length b → ⊥) {u v : ℕ} (holds : u ≡ value_of g (get_or a i 0)) (holds-too : v ≡ value_of g (get_or b j 0)) where
-      abbrev next_in : List Field → Option Reached
+      abbrev next_in : List Field → Result Reached Reached
       next_in h = walk_in (drop (i + 1) a) (drop (j + 1) b) h
 
-      abbrev stay : Bool → Option Reached
+      abbrev stay : Bool → Result Reached Reached
       stay o = reached o (drop i a) (drop j b) g
 
-      meeting : pick (alike_of (get_or a i 0) (get_or b j 0) u v) (next_in g) (pick (waits_of u v) (stay true) (onward (unify_of g u v) next_in)) ≡ walk_in (drop i a) (drop j b) g
+      meeting : pick (alike_of (get_or a i 0) (get_or b j 0) u v) (next_in g) (pick (waits_of u v) (stay true) (onward (unify_of g u v) next_in (stay false))) ≡ walk_in (drop i a) (drop j b) g
       unfolding walk_in unify_of
       meeting =
-          test_by_test (get_or a i 0) (get_or b j 0) u v (next_in g) (stay true) (onward (unify_of g u v) next_in) (λ e. rw (eq-eqb u v e))
+          test_by_test (get_or a i 0) (get_or b j 0) u v (next_in g) (stay true) (onward (unify_of g u v) next_in (stay false)) (λ e. rw (eq-eqb u v e))
           ∙ rw (holds, holds-too, some_left s p, some_left t q) (simp (ne_eqb _ _ (solid-left s p), ne_eqb _ _ (solid-left t q)))
 
       -- the walk goes on past both cells
@@ -193,12 +197,12 @@ module _ {a b : List ℕ} {g : List Field} {from to i j : ℕ} (s : Skipped g a 
         waits_there o = stops true (sym meeting ∙ rw (other, o))
 
         module _ (closed : waits_of u v ≡ false) where
-          pub unified : (h : List Field) → unify_of g u v ≡ Some h → walk_on a b (i + 1) (j + 1) h ≡ walk_on a b from to g
+          pub unified : (h : List Field) → unify_of g u v ≡ Ok h → walk_on a b (i + 1) (j + 1) h ≡ walk_on a b from to g
           unfolding walk_on
           unified h k = rw (← skipped, ← meeting, other, closed, k)
 
-          pub refuted : unify_of g u v ≡ None → None ≡ walk_on a b from to g
-          refuted k = stops false (sym meeting ∙ rw (other, closed, k))
+          pub refuted : ((h : List Field) → unify_of g u v ≡ Ok h → ⊥) → here false ≡ walk_on a b from to g
+          refuted none = stops false (sym meeting ∙ rw (other, closed) (stopped (unify_of g u v) none next_in (stay false)))
 
-      pub fewer_undecided : (h : List Field) → unify_of g u v ≡ Some h → undecided h ≤ undecided g
+      pub fewer_undecided : undecided (either (unify_of g u v)) ≤ undecided g
       fewer_undecided = undecided_unify g u v (λ e. solid-left s p (sym holds ∙ e)) (λ e. solid-left t q (sym holds-too ∙ e))

@@ -3,8 +3,9 @@
 use mathlib.Core.Path.{◌≡◌, refl, sym, ap, subst, ◌∙◌}
 use mathlib.Core.Bool.{true, false}
 use mathlib.Core.List.{List, [], ◌∷◌, ◌++◌}
-use Rattle.std.specs.Prelude.{Bool, Option, Some, None}
-use Rattle.std.proofs.lemmas.Option.{none-some, same_Some}
+use Rattle.std.specs.Prelude.{Bool}
+use Rattle.std.specs.declared.result.Result.{Result}
+use Rattle.std.specs.declared.result.Result.TheVariants.{Ok, Err}
 use mathlib.Core.Logic.{◌⊎◌, inl, inr}
 use Prim.Native.Nat.{ℕ, suc, ◌+◌, ◌-◌, ◌≤◌}
 use native.Mathlib.Omega.{arith}
@@ -14,8 +15,8 @@ use lib.Dec.{eqb}
 use borrow.Author.Tests.{eqb-true, eqb-false, eq-eqb, ne_eqb}
 use Rattle.model.proofs.Lists.{by_test}
 use Rattle.fields.specs.declared.Field.{Field}
-use Rattle.unification.specs.Names.{repl, app, value_of, unify_of, Refining}
-use Rattle.unification.proofs.Laws.{pick_ind, Renamed, value_renamed, unified_by, unify_complete, repl_refines}
+use Rattle.unification.specs.Names.{repl, app, value_of, either, unify_of, Refining}
+use Rattle.unification.proofs.Laws.{pick_ind, same_ok, err-ok, of_ok, Renamed, value_renamed, unify_cases, unify_complete, repl_refines}
 use Rattle.walk.specs.declared.Walked.{Walked}
 use Rattle.walk.specs.Walk.{word, Reached, at_cells, reached, is_open, onward, walk_in, in_numbers, told, walk_on}
 use Rattle.walk.specs.Reading.{Reads}
@@ -26,18 +27,18 @@ pub record Solid (g : List Field) (u : ℕ) : Type 0 where
   pub closed : value_of g u ≡ 254 → ⊥
 
 -- Induction along the walk: what holds where it stops, and is kept by each way to pass cells, holds of what the walk answers.
-pub record Along (P : List ℕ → List ℕ → List Field → Option Reached → Type 0) : Type 0 where
+pub record Along (P : List ℕ → List ℕ → List Field → Result Reached Reached → Type 0) : Type 0 where
   pub ends : (g : List Field) → P [] [] g (reached true [] [] g)
-  pub left_blank : (u : ℕ) (a b : List ℕ) (g : List Field) (r : Option Reached) → value_of g u ≡ 255 → P a b g r → P (u ∷ a) b g r
-  pub right_blank : (v : ℕ) (a b : List ℕ) (g : List Field) (r : Option Reached) → value_of g v ≡ 255 → P a b g r → P a (v ∷ b) g r
+  pub left_blank : (u : ℕ) (a b : List ℕ) (g : List Field) (r : Result Reached Reached) → value_of g u ≡ 255 → P a b g r → P (u ∷ a) b g r
+  pub right_blank : (v : ℕ) (a b : List ℕ) (g : List Field) (r : Result Reached Reached) → value_of g v ≡ 255 → P a b g r → P a (v ∷ b) g r
   pub left_over : (u : ℕ) (a : List ℕ) (g : List Field) → (value_of g u ≡ 255 → ⊥) → P (u ∷ a) [] g (reached (is_open g u) (u ∷ a) [] g)
   pub right_over : (v : ℕ) (b : List ℕ) (g : List Field) → (value_of g v ≡ 255 → ⊥) → P [] (v ∷ b) g (reached (is_open g v) [] (v ∷ b) g)
-  pub same_cell : (u v : ℕ) (a b : List ℕ) (g : List Field) (r : Option Reached) → u ≡ v → P a b g r → P (u ∷ a) (v ∷ b) g r
+  pub same_cell : (u v : ℕ) (a b : List ℕ) (g : List Field) (r : Result Reached Reached) → u ≡ v → P a b g r → P (u ∷ a) (v ∷ b) g r
   pub waits : (u v : ℕ) (a b : List ℕ) (g : List Field) → (value_of g u ≡ 254) ⊎ (value_of g v ≡ 254) → P (u ∷ a) (v ∷ b) g (reached true (u ∷ a) (v ∷ b) g)
   pub letters : (u v : ℕ) (a b : List ℕ) (g : List Field) → Solid g u → Solid g v → ((h : List Field) → P a b h (walk_in a b h))
-      → P (u ∷ a) (v ∷ b) g (onward (unify_of g (value_of g u) (value_of g v)) (walk_in a b))
+      → P (u ∷ a) (v ∷ b) g (onward (unify_of g (value_of g u) (value_of g v)) (walk_in a b) (reached false (u ∷ a) (v ∷ b) g))
 
-pub along : (P : List ℕ → List ℕ → List Field → Option Reached → Type 0) → Along P → (a b : List ℕ) (g : List Field) → P a b g (walk_in a b g)
+pub along : (P : List ℕ → List ℕ → List Field → Result Reached Reached → Type 0) → Along P → (a b : List ℕ) (g : List Field) → P a b g (walk_in a b g)
 unfolding walk_in
 along P k [] [] g = k.ends g
 along P k [] (v ∷ b) g =
@@ -65,13 +66,22 @@ along P k (u ∷ a) (v ∷ b) g =
     (along P k a b))))))
 
 -- What a walk answers where it has not failed: where it stops, or what it answers with what was unified.
-pub at_stop : (P : Reached → Type 0) (t : Bool) {a b : List ℕ} {g : List Field} → P (at_cells a b g) → (w : Reached) → reached t a b g ≡ Some w → P w
-at_stop P true h w e = subst P (same_Some _ _ e) h
-at_stop P false h w e = absurd (none-some w e)
+pub at_stop : (P : Reached → Type 0) (t : Bool) {a b : List ℕ} {g : List Field} → P (at_cells a b g) → (w : Reached) → reached t a b g ≡ Ok w → P w
+at_stop P true h w e = subst P (same_ok _ _ e) h
+at_stop P false h w e = err-ok w _ e
 
-pub at_onward : (P : Reached → Type 0) (r : Option (List Field)) {go : List Field → Option Reached} → ((h : List Field) → r ≡ Some h → (w : Reached) → go h ≡ Some w → P w) → (w : Reached) → onward r go ≡ Some w → P w
-at_onward P None f w e = absurd (none-some w e)
-at_onward P (Some h) f w e = f h refl w e
+pub at_onward : (P : Reached → Type 0) (r : Result (List Field) (List Field)) {go : List Field → Result Reached Reached} (x : Reached) → ((h : List Field) → r ≡ Ok h → (w : Reached) → go h ≡ Ok w → P w) → (w : Reached) → onward r go (Err x) ≡ Ok w → P w
+at_onward P (Err h) x f w e = err-ok w _ e
+at_onward P (Ok h) x f w e = f h refl w e
+
+-- What it tells, failed or not.
+pub told_stop : (P : Reached → Type 0) (t : Bool) {a b : List ℕ} {g : List Field} → P (at_cells a b g) → P (either (reached t a b g))
+told_stop P true h = h
+told_stop P false h = h
+
+pub told_onward : (P : Reached → Type 0) (r : Result (List Field) (List Field)) (go : List Field → Result Reached Reached) (stop : Result Reached Reached) → ((h : List Field) → r ≡ Ok h → P (either (go h))) → P (either stop) → P (either (onward r go stop))
+told_onward P (Err h) go stop f s = s
+told_onward P (Ok h) go stop f s = f h refl
 
 never_empty : {P : Type 0} {x : ℕ} {xs : List ℕ} → x ∷ xs ≡ [] → P
 never_empty e = let z : ◌≡◌ {A = ℕ} 0 1 = cc in absurd (omega arith)
@@ -107,23 +117,24 @@ repl_open g u v h n m p q w =
     (λ t. (λ e. absurd (p (sym (eqb-true _ _ t) ∙ e)), λ e. absurd (q e)))
     (λ t. (λ e. e, λ e. e)))
 
-pub unify_open : (g : List Field) (u v : ℕ) → (u ≡ 255 → ⊥) → (v ≡ 255 → ⊥) → (u ≡ 254 → ⊥) → (v ≡ 254 → ⊥) → (h : List Field) → unify_of g u v ≡ Some h → SameOpen g h
+pub unify_open : (g : List Field) (u v : ℕ) → (u ≡ 255 → ⊥) → (v ≡ 255 → ⊥) → (u ≡ 254 → ⊥) → (v ≡ 254 → ⊥) → SameOpen g (either (unify_of g u v))
 unify_open g u v n m p q =
-    unified_by (SameOpen g) g u v
+    unify_cases (λ r. SameOpen g (either r)) g u v
     (λ e w. (λ z. z, λ z. z))
+    (λ d a b w. (λ z. z, λ z. z))
     (λ d h. repl_open g u v h n m p q)
     (λ d h. repl_open g v u h m n q p)
 
 -- the walk has not failed, s is read by σ from what it answers, and the words from there on are equal
-pub record Keeps (σ : ℕ → ℕ) (s : List Field) (r : Option Reached) : Type 0 where
+pub record Keeps (σ : ℕ → ℕ) (s : List Field) (r : Result Reached Reached) : Type 0 where
   pub at : Reached
-  pub goes : r ≡ Some at
+  pub goes : r ≡ Ok at
   pub reads : Reads σ at.substitution s
   pub equal : word s at.left ≡ word s at.right
 
-pub record KeepsOn (σ : ℕ → ℕ) (s : List Field) (a b : List ℕ) (r : Option Walked) : Type 0 where
+pub record KeepsOn (σ : ℕ → ℕ) (s : List Field) (a b : List ℕ) (r : Result Walked Walked) : Type 0 where
   pub at : Walked
-  pub goes : r ≡ Some at
+  pub goes : r ≡ Ok at
   pub reads : Reads σ at.substitution s
   pub equal : word s (drop at.left a) ≡ word s (drop at.right b)
 
@@ -182,7 +193,7 @@ module _ (σ : ℕ → ℕ) (p : Refining σ) (s : List Field) where
     letters = λ u v a b g m n so h e.
         let q = sym (read_word g u a h m) ∙ e ∙ read_word g v b h n in
         let c = unify_complete g (value_of g u) (value_of g v) σ p (cc) in
-        let o : SameOpen g c.0 = unify_open g (value_of g u) (value_of g v) m.present n.present m.closed n.closed c.0 c.1 in
+        let o : SameOpen g c.0 = of_ok (SameOpen g) _ (unify_open g (value_of g u) (value_of g v) m.present n.present m.closed n.closed) c.0 c.1 in
         rw c.1 (so c.0 (read_unified g c.0 o c.2 h) (cc));
   }
 
@@ -201,20 +212,20 @@ one_more e = record { passed = suc e.passed; within = let h = e.within in omega 
 abbrev Ends : List ℕ → List ℕ → Reached → Type 0
 Ends a b w = End a w.left × End b w.right
 
-stays : (a b : List ℕ) (g : List Field) (t : Bool) (w : Reached) → reached t a b g ≡ Some w → Ends a b w
-stays a b g t = at_stop (Ends a b) t (whole a, whole b)
+stays : (a b : List ℕ) (g : List Field) (t : Bool) → Ends a b (either (reached t a b g))
+stays a b g t = told_stop (Ends a b) t (whole a, whole b)
 
-walk_ends : (a b : List ℕ) (g : List Field) (w : Reached) → walk_in a b g ≡ Some w → Ends a b w
-walk_ends = along (λ a b g r. (w : Reached) → r ≡ Some w → Ends a b w) record {
+walk_ends : (a b : List ℕ) (g : List Field) → Ends a b (either (walk_in a b g))
+walk_ends = along (λ a b g r. Ends a b (either r)) record {
   ends = λ g. stays [] [] g true;
-  left_blank = λ u a b g r z so w e. let k = so w e in (one_more k.0, k.1);
-  right_blank = λ v a b g r z so w e. let k = so w e in (k.0, one_more k.1);
+  left_blank = λ u a b g r z so. (one_more so.0, so.1);
+  right_blank = λ v a b g r z so. (so.0, one_more so.1);
   left_over = λ u a g n. stays (u ∷ a) [] g (is_open g u);
   right_over = λ v b g n. stays [] (v ∷ b) g (is_open g v);
-  same_cell = λ u v a b g r d so w e. let k = so w e in (one_more k.0, one_more k.1);
+  same_cell = λ u v a b g r d so. (one_more so.0, one_more so.1);
   waits = λ u v a b g o. stays (u ∷ a) (v ∷ b) g true;
   letters = λ u v a b g m n so.
-      at_onward (Ends (u ∷ a) (v ∷ b)) (unify_of g (value_of g u) (value_of g v)) (λ h _ w e. let k = so h w e in (one_more k.0, one_more k.1));
+      told_onward (Ends (u ∷ a) (v ∷ b)) (unify_of g (value_of g u) (value_of g v)) _ _ (λ h _. let k = so h in (one_more k.0, one_more k.1)) (stays (u ∷ a) (v ∷ b) g false);
 }
 
 -- So the cells passed say what is left.
@@ -230,7 +241,7 @@ pub walk_on_complete : (a b : List ℕ) (i j : ℕ) (g : List Field) → i ≤ l
 unfolding walk_on
 walk_on_complete a b i j g from to σ p s h e =
     let k = walk_complete σ p s (drop i a) (drop j b) g h e in
-    let ends = walk_ends (drop i a) (drop j b) g k.at k.goes in
+    let ends = of_ok (Ends (drop i a) (drop j b)) _ (walk_ends (drop i a) (drop j b) g) k.at k.goes in
     record {
       at = in_numbers a b k.at;
       goes = rw k.goes;
@@ -239,11 +250,15 @@ walk_on_complete a b i j g from to σ p s h e =
     }
 
 -- what a walk in numbers answers, from where it stops
-pub told_some : (P : Walked → Type 0) (a b : List ℕ) (w : Option Reached) → ((q : Reached) → w ≡ Some q → P (in_numbers a b q)) → (r : Walked) → told a b w ≡ Some r → P r
-told_some P a b None f r e = absurd (none-some r e)
-told_some P a b (Some q) f r e = subst P (same_Some _ _ e) (f q refl)
+pub told_ok : (P : Walked → Type 0) (a b : List ℕ) (w : Result Reached Reached) → ((q : Reached) → w ≡ Ok q → P (in_numbers a b q)) → (r : Walked) → told a b w ≡ Ok r → P r
+told_ok P a b (Err q) f r e = err-ok r _ e
+told_ok P a b (Ok q) f r e = subst P (same_ok _ _ e) (f q refl)
+
+pub told_either : (P : Walked → Type 0) (a b : List ℕ) (w : Result Reached Reached) → P (in_numbers a b (either w)) → P (either (told a b w))
+told_either P a b (Err q) h = h
+told_either P a b (Ok q) h = h
 
 -- the locations are within the sides
-pub walk_on_within : (a b : List ℕ) (i j : ℕ) (g : List Field) (r : Walked) → walk_on a b i j g ≡ Some r → (r.left ≤ length a) × (r.right ≤ length b)
+pub walk_on_within : (a b : List ℕ) (i j : ℕ) (g : List Field) → ((either (walk_on a b i j g)).left ≤ length a) × ((either (walk_on a b i j g)).right ≤ length b)
 unfolding walk_on
-walk_on_within a b i j g = told_some (λ r. (r.left ≤ length a) × (r.right ≤ length b)) a b (walk_in (drop i a) (drop j b) g) (λ q _. (omega arith, omega arith))
+walk_on_within a b i j g = told_either (λ r. (r.left ≤ length a) × (r.right ≤ length b)) a b (walk_in (drop i a) (drop j b) g) (omega arith, omega arith)

@@ -3,17 +3,17 @@
 use mathlib.Core.Path.{◌≡◌, refl, sym, ap, ap₂, ◌∙◌}
 use mathlib.Core.Bool.{true}
 use mathlib.Core.List.{List, [], ◌∷◌, ◌++◌, map}
-use Rattle.std.specs.Prelude.{Bool, false, Some}
-use Rattle.std.proofs.lemmas.Option.{none-some}
+use Rattle.std.specs.Prelude.{Bool, false}
+use Rattle.std.specs.declared.result.Result.TheVariants.{Ok}
 use mathlib.Core.Logic.{◌⊎◌, inl, inr}
 use Prim.Native.Nat.{ℕ, suc}
 use lib.Dec.{eqb}
 use borrow.Author.Tests.{eqb-true, eqb-false}
 use Rattle.fields.specs.declared.Field.{Field}
-use Rattle.unification.specs.Names.{value_of, unify_of, Inside}
-use Rattle.unification.proofs.Laws.{pick_ind, Renamed, unchanged, further, value_renamed, value_below, Unified, unify_sound, unify_inside}
+use Rattle.unification.specs.Names.{value_of, either, unify_of, Inside}
+use Rattle.unification.proofs.Laws.{pick_ind, err-ok, of_ok, Renamed, unchanged, further, value_renamed, value_below, Unified, unify_sound, unify_inside}
 use Rattle.walk.specs.Walk.{Letters, word, Reached, reached, is_open, walk_in}
-use Rattle.walk.proofs.Right.{Solid, along, at_stop, at_onward, word_blank, word-solid, word-append, SameOpen, unify_open}
+use Rattle.walk.proofs.Right.{Solid, along, at_stop, at_onward, told_stop, told_onward, word_blank, word-solid, word-append, SameOpen, unify_open}
 
 abbrev pub Closed : List Field → Type 0
 Closed g = (w : ℕ) → value_of g w ≡ 254 → ⊥
@@ -66,8 +66,8 @@ solved_both {a} {b} {u = u} {v = v} n m q r =
       equal = renamed_solid both u a n.present ∙ ap₂ (λ x z. x ∷ z) (ap r.how.by q.joins) r.equal ∙ sym (renamed_solid both v b m.present);
     }
 
-pub walk_sound : (a b : List ℕ) (g : List Field) → Closed g → (w : Reached) → walk_in a b g ≡ Some w → Solved a b g w.substitution
-walk_sound = along (λ a b g r. Closed g → (w : Reached) → r ≡ Some w → Solved a b g w.substitution) record {
+pub walk_sound : (a b : List ℕ) (g : List Field) → Closed g → (w : Reached) → walk_in a b g ≡ Ok w → Solved a b g w.substitution
+walk_sound = along (λ a b g r. Closed g → (w : Reached) → r ≡ Ok w → Solved a b g w.substitution) record {
   ends = λ g c. at_stop (λ w. Solved [] [] g w.substitution) true (record { how = unchanged g; closed = c; equal = refl });
   left_blank = λ u a b g r e so c w t. solved-left e (so c w t);
   right_blank = λ v a b g r e so c w t. exchanged (solved-left e (exchanged (so c w t)));
@@ -76,9 +76,9 @@ walk_sound = along (λ a b g r. Closed g → (w : Reached) → r ≡ Some w → 
   same_cell = λ u v a b g r d so c w t. solved-same d (so c w t);
   waits = λ u v a b g o c w t. stuck g u v c o;
   letters = λ u v a b g m n so c.
-      at_onward (λ w. Solved (u ∷ a) (v ∷ b) g w.substitution) (unify_of g (value_of g u) (value_of g v))
+      at_onward (λ w. Solved (u ∷ a) (v ∷ b) g w.substitution) (unify_of g (value_of g u) (value_of g v)) _
       (λ h t w e.
-      let o : SameOpen g h = unify_open g (value_of g u) (value_of g v) m.present n.present m.closed n.closed h t in
+      let o : SameOpen g h = of_ok (SameOpen g) _ (unify_open g (value_of g u) (value_of g v) m.present n.present m.closed n.closed) h t in
       solved_both m n (unify_sound g (value_of g u) (value_of g v) m.present n.present h t) (so h (λ x z. c x ((o x).1 z)) w e));
 }
   where
@@ -86,24 +86,27 @@ walk_sound = along (λ a b g r. Closed g → (w : Reached) → r ≡ Some w → 
     stuck g u v c (inl e) = absurd (c u e)
     stuck g u v c (inr e) = absurd (c v e)
 
-    not_failed : (t : Bool) (a b : List ℕ) (g : List Field) (w : Reached) → reached t a b g ≡ Some w → t ≡ true
+    not_failed : (t : Bool) (a b : List ℕ) (g : List Field) (w : Reached) → reached t a b g ≡ Ok w → t ≡ true
     not_failed true a b g w e = refl
-    not_failed false a b g w e = absurd (none-some w e)
+    not_failed false a b g w e = err-ok w _ e
 
--- letters come from nowhere else
-pub walk_inside : (l : ℕ) (a b : List ℕ) (g : List Field) → Letters l a → Letters l b → Inside l g → (w : Reached) → walk_in a b g ≡ Some w → Inside l w.substitution
-walk_inside l = along (λ a b g r. Letters l a → Letters l b → Inside l g → (w : Reached) → r ≡ Some w → Inside l w.substitution) record {
-  ends = λ g p q. held true [] [] g;
+-- letters come from nowhere else, even where the walk fails
+pub walk_inside : (l : ℕ) (a b : List ℕ) (g : List Field) → Letters l a → Letters l b → Inside l g → Inside l (either (walk_in a b g)).substitution
+walk_inside l = along (λ a b g r. Letters l a → Letters l b → Inside l g → Inside l (either r).substitution) record {
+  ends = λ g p q ins. ins;
   left_blank = λ u a b g r e so p q. so (λ i. p (suc i)) q;
   right_blank = λ v a b g r e so p q. so p (λ i. q (suc i));
   left_over = λ u a g n p q. held (is_open g u) (u ∷ a) [] g;
   right_over = λ v b g n p q. held (is_open g v) [] (v ∷ b) g;
   same_cell = λ u v a b g r d so p q. so (λ i. p (suc i)) (λ i. q (suc i));
-  waits = λ u v a b g o p q. held true (u ∷ a) (v ∷ b) g;
+  waits = λ u v a b g o p q ins. ins;
   letters = λ u v a b g m n so p q ins.
-      at_onward (λ w. Inside l w.substitution) (unify_of g (value_of g u) (value_of g v))
-      (λ h t. so h (λ i. p (suc i)) (λ i. q (suc i)) (unify_inside l g (value_of g u) (value_of g v) ins m.present n.present (value_below l g u ins (p 0)) (value_below l g v ins (q 0)) h t));
+      told_onward (λ w. Inside l w.substitution) (unify_of g (value_of g u) (value_of g v)) _ _
+      (λ h t.
+      let k : Inside l h = of_ok (Inside l) _ (unify_inside l g (value_of g u) (value_of g v) ins m.present n.present (value_below l g u ins (p 0)) (value_below l g v ins (q 0))) h t in
+      so h (λ i. p (suc i)) (λ i. q (suc i)) k)
+      (held false (u ∷ a) (v ∷ b) g ins);
 }
   where
-    held : (t : Bool) (a b : List ℕ) (g : List Field) → Inside l g → (w : Reached) → reached t a b g ≡ Some w → Inside l w.substitution
-    held t a b g ins = at_stop (λ w. Inside l w.substitution) t ins
+    held : (t : Bool) (a b : List ℕ) (g : List Field) → Inside l g → Inside l (either (reached t a b g)).substitution
+    held t a b g ins = told_stop (λ w. Inside l w.substitution) t ins

@@ -1,8 +1,9 @@
 -- The equation automaton in a box of lengths: a location is the cells that are left on both sides.
-use Rattle.std.specs.Prelude.{◌≡◌, Bool, true, false, Option, Some, None, List, [], ◌∷◌, ℕ, ◌+◌, ◌-◌, ◌<◌, ◌≤◌, get_or, length, drop, ltb, eqb}
+use Rattle.std.specs.Prelude.{◌≡◌, Bool, true, false, List, [], ◌∷◌, ℕ, ◌+◌, ◌-◌, ◌<◌, ◌≤◌, get_or, length, drop, ltb, eqb}
 use Rattle.model.specs.Lists.{pick}
 use Rattle.fields.specs.declared.Field.{Field}
-use Rattle.std.specs.Option.{option_map}
+use Rattle.std.specs.declared.result.Result.{Result}
+use Rattle.std.specs.declared.result.Result.TheVariants.{Ok, Err}
 use Rattle.unification.specs.Names.{value_of, unify_of, Below}
 use Rattle.walk.specs.declared.Walked.{Walked}
 
@@ -47,9 +48,9 @@ pub record Reached : Type 0 where
 abbrev pub at_cells : List ℕ → List ℕ → List Field → Reached
 at_cells a b g = record { left = a; right = b; substitution = g }
 
--- where a walk stops, if it has not failed
-abbrev pub reached : Bool → List ℕ → List ℕ → List Field → Option Reached
-reached t a b g = pick t (Some (at_cells a b g)) None
+-- where a walk stops, and whether it has not failed
+abbrev pub reached : Bool → List ℕ → List ℕ → List Field → Result Reached Reached
+reached t a b g = pick t (Ok (at_cells a b g)) (Err (at_cells a b g))
 
 -- whether cell u holds 254: it is open whether there is such a place
 abbrev pub is_open : List Field → ℕ → Bool
@@ -67,14 +68,14 @@ alike_of x y u v = pick (eqb x y) true (pick (eqb u 254) false (eqb u v))
 abbrev pub waits_of : ℕ → ℕ → Bool
 waits_of u v = pick (eqb u 254) true (eqb v 254)
 
--- the walk goes on with what was unified, and fails where nothing was
-abbrev pub onward : Option (List Field) → (List Field → Option Reached) → Option Reached
-onward None go = None
-onward (Some h) go = go h
+-- the walk goes on with what was unified, where it could be
+abbrev pub onward : Result (List Field) (List Field) → (List Field → Result Reached Reached) → Result Reached Reached → Result Reached Reached
+onward (Err h) go stop = stop
+onward (Ok h) go stop = go h
 
 -- Blank heads are dropped (document 01's B and C), and so is the same cell on both sides. An open place stops the walk. A side used up before a letter or
 -- name fails (F). Else the two are unified (E), and both dropped (D), where they can be.
-unfoldable pub walk_in : List ℕ → List ℕ → List Field → Option Reached
+unfoldable pub walk_in : List ℕ → List ℕ → List Field → Result Reached Reached
 walk_in [] [] g = reached true [] [] g
 walk_in [] (v ∷ b) g = pick (eqb (value_of g v) 255) (walk_in [] b g) (reached (is_open g v) [] (v ∷ b) g)
 walk_in (u ∷ a) [] g = pick (eqb (value_of g u) 255) (walk_in a [] g) (reached (is_open g u) (u ∷ a) [] g)
@@ -84,15 +85,16 @@ walk_in (u ∷ a) (v ∷ b) g =
     (pick (eqb u v) (walk_in a b g)
     (pick (is_open g u) (reached true (u ∷ a) (v ∷ b) g)
     (pick (is_open g v) (reached true (u ∷ a) (v ∷ b) g)
-    (onward (unify_of g (value_of g u) (value_of g v)) (walk_in a b))))))
+    (onward (unify_of g (value_of g u) (value_of g v)) (walk_in a b) (reached false (u ∷ a) (v ∷ b) g))))))
 
 -- the same in numbers: how many of the cells a and b are passed
 abbrev pub in_numbers : List ℕ → List ℕ → Reached → Walked
 in_numbers a b w = record { left = length a - length w.left; right = length b - length w.right; substitution = w.substitution }
 
-abbrev pub told : List ℕ → List ℕ → Option Reached → Option Walked
-told a b w = option_map (in_numbers a b) w
+abbrev pub told : List ℕ → List ℕ → Result Reached Reached → Result Walked Walked
+told a b (Ok w) = Ok (in_numbers a b w)
+told a b (Err w) = Err (in_numbers a b w)
 
 -- the walk from cell i of a and cell j of b
-unfoldable pub walk_on : List ℕ → List ℕ → ℕ → ℕ → List Field → Option Walked
+unfoldable pub walk_on : List ℕ → List ℕ → ℕ → ℕ → List Field → Result Walked Walked
 walk_on a b i j g = told a b (walk_in (drop i a) (drop j b) g)

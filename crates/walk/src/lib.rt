@@ -60,27 +60,38 @@ fn waits(u: u8, v: u8) -> bool
 
 // From cell left0 of a and cell right0 of b: blanks are passed over (document 01's B and C); the same cell on both sides is passed whatever it holds; the
 // walk stops at an open place; a side that is used up before a letter fails (F); else what the cells hold is made the same (E) and passed (D), or fails
-// where it is two letters that differ. Where it fails, no lengths of the box make the sides the same.
+// where it is two letters that differ. Where it fails, no lengths of the box make the sides the same, and the error is how far it came.
 // It calls itself on the next location, a form that document 01 names.
-pub fn walk_on(a: &[u8], b: &[u8], left0: usize, right0: usize, g: Substitution) -> Option<Walked>
+pub fn walk_on(
+    a: &[u8],
+    b: &[u8],
+    left0: usize,
+    right0: usize,
+    g: Substitution,
+) -> Result<Walked, Walked>
     requires { Cells a.now × Cells b.now × (left0 ≤ length a.now) × (right0 ≤ length b.now) }
     ensures { result ≡ walk_on a.now b.now left0 right0 g }
 {
     let left = skip(a, left0, g);
     let right = skip(b, right0, g);
+    let here = Walked {
+        left,
+        right,
+        substitution: g,
+    };
     if left == a.len() {
-        return may_end(b, right, g).then_some(Walked {
-            left,
-            right,
-            substitution: g,
-        });
+        return if may_end(b, right, g) {
+            Ok(here)
+        } else {
+            Err(here)
+        };
     }
     if right == b.len() {
-        return may_end(a, left, g).then_some(Walked {
-            left,
-            right,
-            substitution: g,
-        });
+        return if may_end(a, left, g) {
+            Ok(here)
+        } else {
+            Err(here)
+        };
     }
     let x = a[left];
     let y = b[right];
@@ -92,13 +103,11 @@ pub fn walk_on(a: &[u8], b: &[u8], left0: usize, right0: usize, g: Substitution)
         return walk_on(a, b, p, q, g);
     }
     if waits(u, v) {
-        return Some(Walked {
-            left,
-            right,
-            substitution: g,
-        });
+        return Ok(here);
     }
-    let h = unification::unify(g, u, v)?;
+    let Ok(h) = unification::unify(g, u, v) else {
+        return Err(here);
+    };
     walk_on(a, b, p, q, h)
 }
 

@@ -8,7 +8,7 @@ use lib.ListN.{get_or, length, drop, length-take}
 use Rattle.model.proofs.Seams.{tail_lent}
 use Rattle.walk.proofs.Laws.{cells_part, cells_tail, length_tail}
 use Rattle.trails.specs.Equations.{cell_total}
-use Rattle.trails.proofs.Trails.{total_next, all_end, Stepped, located-first, others-located, all_on, all_stop, handed_on}
+use Rattle.trails.proofs.Trails.{total_next, all_end, Stepped, located-first, others-next, all_on, all_stop, handed_on}
 use Rattle.trails.proofs.+walk_all.Goals as goal
 
 -- there is a first equation, and there are cells for it and for the others
@@ -56,7 +56,7 @@ walk_all-requires t c =
     let cells = length_tail x (m + n) in
     let fits = room x w m n (omega arith) c.from-m.ensures c.from.ensures c.requires.1 in
     let stepped : Stepped x w c.args.q c.args.t m n c.walk_equation.result = record { some = omega arith; left = c.from-m.ensures; right = c.from.ensures; is = c.walk_equation.ensures } in
-    (omega arith, (cells_tail x (m + n) c.requires.0, rw (tail_lent w 2) (omega arith), omega arith, others-located stepped c.in_ok-r.r c.in_ok-r.was c.requires.3))
+    (omega arith, (cells_tail x (m + n) c.requires.0, rw (tail_lent w 2) (omega arith), omega arith, others-next stepped c.in_ok-r.r c.in_ok-r.was c.requires.3))
 
 pub returns-in_err-r : goal.returns-in_err-r
 returns-in_err-r t c =

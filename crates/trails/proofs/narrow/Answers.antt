@@ -1,21 +1,18 @@
 -- `trails::narrow` meets its contract: the first trail is renewed and walked, and then the second. Assumes nothing.
-use mathlib.Core.Path.{◌∙◌}
 use Rattle.trails.specs.Board.{narrow_of}
-use Rattle.trails.proofs.Trails.{handed_on}
 use Rattle.trails.proofs.narrow.Goals as goal
 
-pub returns-in_err-ahead : goal.returns-in_err-ahead
+pub returns-in-Err : goal.returns-in-Err
 unfolding narrow_of
-returns-in_err-ahead c =
-    handed_on _ _ c.from_residual.ensures.1 ∙ rw (← c.renew_trail.ensures, ← c.walk_all.ensures, c.in_err-ahead.was)
+returns-in-Err c =
+    rw (← c.renew_trail.ensures, ← c.walk_all.ensures, c.in-Err.is)
 
-pub returns-in_err-behind : goal.returns-in_err-behind
+pub returns-in-Ok-walk_all : goal.returns-in-Ok-walk_all
 unfolding narrow_of
-returns-in_err-behind c =
-    handed_on _ _ c.from_residual-in_err-behind.ensures.1
-    ∙ rw (← c.renew_trail.ensures, ← c.walk_all.ensures, c.in_ok-ahead.was, ← c.renew_trail-2.ensures, ← c.walk_all-2.ensures, c.in_err-behind.was)
+returns-in-Ok-walk_all c =
+    rw (← c.renew_trail.ensures, ← c.walk_all.ensures, c.in-Ok.is, ← c.renew_trail-2.ensures, ← c.walk_all-2.ensures, c.in-Ok-walk_all.is)
 
-pub returns : goal.returns
+pub returns-in-Err-walk_all : goal.returns-in-Err-walk_all
 unfolding narrow_of
-returns c =
-    rw (← c.renew_trail.ensures, ← c.walk_all.ensures, c.in_ok-ahead.was, ← c.renew_trail-2.ensures, ← c.walk_all-2.ensures, c.in_ok-behind.was)
+returns-in-Err-walk_all c =
+    rw (← c.renew_trail.ensures, ← c.walk_all.ensures, c.in-Ok.is, ← c.renew_trail-2.ensures, ← c.walk_all-2.ensures, c.in-Err-walk_all.is)

@@ -1,27 +1,34 @@
 -- `trails::walk_equation` meets its contract: the equation is walked from where it stands, and the new location written. Assumes nothing.
-use mathlib.Core.Path.{sym, ap, ◌∙◌}
+use mathlib.Core.Path.{sym, ap, subst, ◌∙◌}
+use Prim.Native.Nat.{◌≤◌}
 use native.Mathlib.Omega.{arith}
+use lib.ListN.{length}
+use Rattle.std.specs.declared.result.Result.{Result}
+use Rattle.walk.specs.declared.Walked.{Walked}
+use Rattle.unification.specs.Names.{either}
 use Rattle.trails.specs.Trail.{moved_or}
 use Rattle.walk.proofs.Right.{walk_on_within}
 use Rattle.trails.proofs.Trails.{step_is}
 use Rattle.trails.proofs.walk_equation.Goals as goal
 
-pub overflow_cast-at : goal.overflow_cast-at
-overflow_cast-at c =
+pub moved-requires : goal.moved-requires
+moved-requires c =
     let a = c.args in
-    omega (arith, walk_on_within a.a.now a.b.now _ _ a.t.substitution c.in-Some.r (sym c.walk_on.ensures ∙ c.in-Some.is))
+    let at = subst (λ (z : Result Walked Walked). ((either z).left ≤ length a.a.now) × ((either z).right ≤ length a.b.now)) (sym c.walk_on.ensures ∙ c.in-Ok.is) (walk_on_within a.a.now a.b.now _ _ a.t.substitution) in
+    (omega arith, omega (arith, at.0), omega (arith, at.1))
 
-pub overflow_cast-at-2 : goal.overflow_cast-at-2
-overflow_cast-at-2 c =
+pub moved-requires-in-Err : goal.moved-requires-in-Err
+moved-requires-in-Err c =
     let a = c.args in
-    omega (arith, walk_on_within a.a.now a.b.now _ _ a.t.substitution c.in-Some.r (sym c.walk_on.ensures ∙ c.in-Some.is))
+    let at = subst (λ (z : Result Walked Walked). ((either z).left ≤ length a.a.now) × ((either z).right ≤ length a.b.now)) (sym c.walk_on.ensures ∙ c.in-Err.is) (walk_on_within a.a.now a.b.now _ _ a.t.substitution) in
+    (omega arith, omega (arith, at.0), omega (arith, at.1))
 
-pub returns-in_default : goal.returns-in_default
-returns-in_default c =
+pub returns-in-Ok : goal.returns-in-Ok
+returns-in-Ok c =
     let a = c.args in
-    ap (moved_or a.q a.t.at) (sym c.in_default.is) ∙ step_is a.a.now a.b.now a.q a.t _ _ c.walk_on.result c.from-left.ensures c.from-right.ensures c.walk_on.ensures
+    rw c.moved.ensures (ap (moved_or a.q a.t.at) (sym c.in-Ok.is) ∙ step_is a.a.now a.b.now a.q a.t _ _ c.walk_on.result c.from-left.ensures c.from-right.ensures c.walk_on.ensures)
 
-pub returns : goal.returns
-returns c =
+pub returns-in-Err : goal.returns-in-Err
+returns-in-Err c =
     let a = c.args in
-    ap (moved_or a.q a.t.at) (sym c.in-Some.is) ∙ step_is a.a.now a.b.now a.q a.t _ _ c.walk_on.result c.from-left.ensures c.from-right.ensures c.walk_on.ensures
+    rw c.moved-in-Err.ensures (ap (moved_or a.q a.t.at) (sym c.in-Err.is) ∙ step_is a.a.now a.b.now a.q a.t _ _ c.walk_on.result c.from-left.ensures c.from-right.ensures c.walk_on.ensures)
