@@ -2,11 +2,11 @@
 // is a heading and is printed as it is.
 #![tactic(auto)]
 
-ghost use Rattle.std.specs.Prelude.{◌≡◌, ◌≤◌, length, min, take};
+ghost use Rattle.std.specs.Prelude.{◌≡◌, ◌≤◌, IfOk, length, min, take};
 
 pub use hexadecimal::decode;
+use hexadecimal::find;
 use input::read_full;
-use scan::find;
 use std::io;
 
 // Of the standard input the first 65,536 bytes are read.
@@ -28,6 +28,25 @@ pub fn run<F: FnMut(&[u8]) -> io::Result<()>>(rt: &HostRuntime, show: F) -> io::
     show_each(rt, &buf[..n], show)
 }
 
+// Prints each heading from the line at `from` on, and the name of the next vector. Returns where that vector's colon stands, or an index past
+// the text where no vector is left.
+pub fn next(rt: &impl Print, text: &[u8], from: usize) -> io::Result<usize>
+    ensures { IfOk result (λ r. from ≤ r) }
+{
+    let mut at = from;
+    while at < text.len() {
+        let end = find(text, at, b'\n');
+        let colon = find(&text[..end], at, b':');
+        rt.write_all(&text[at..colon])?;
+        if colon < end {
+            return Ok(colon);
+        }
+        rt.write_all(b"\n")?;
+        at = end + 1;
+    }
+    Ok(at)
+}
+
 // Prints each heading of a text, and the name of each vector, and has what the vector asks shown, from its colon on.
 pub fn show_each<F: FnMut(&[u8]) -> io::Result<()>>(
     rt: &impl Print,
@@ -36,18 +55,11 @@ pub fn show_each<F: FnMut(&[u8]) -> io::Result<()>>(
 ) -> io::Result<()>
     requires { F.IsAlwaysCallable show }
 {
-    let mut at = 0;
+    let mut at = next(rt, text, 0)?;
     while at < text.len() {
         let end = find(text, at, b'\n');
-        let line = &text[at..end];
-        let colon = find(line, 0, b':');
-        rt.write_all(&line[..colon])?;
-        if colon < line.len() {
-            show(&line[colon..])?;
-        } else {
-            rt.write_all(b"\n")?;
-        }
-        at = end + 1;
+        show(&text[at..end])?;
+        at = next(rt, text, end + 1)?;
     }
     Ok(())
 }
