@@ -1,5 +1,5 @@
 -- The clauses of a place and of a constraint as the code has them. Assumes nothing.
-use mathlib.Core.Path.{◌≡◌, sym, ap, ap₂, ◌∙◌}
+use mathlib.Core.Path.{◌≡◌, sym, ap, ap₂, ◌∙◌, subst}
 use Prim.Native.Nat.{ℕ, suc, ◌+◌, ◌-◌, ◌*◌, ◌/◌, ◌%◌, ◌<◌, ◌≤◌}
 use native.Mathlib.Nat.{suc-mul, div-add-mod', mod-lt, div-lt_iff_lt-mul}
 use native.Mathlib.Omega.{arith}
@@ -19,6 +19,7 @@ use Rattle.model.proofs.Keeping.{total-more, total-none}
 use Rattle.formula.proofs.Totals.{place-before, field-total}
 use Rattle.formula.proofs.Finding.{some_at, not_both_at, tail_at, zero_at, add_at, bound_at}
 use Rattle.std.specs.Prelude.{Result, Ok, Err}
+use Rattle.std.specs.Result.{MatchResult}
 use Rattle.literals.specs.declared.ClauseId.{ClauseId}
 use Rattle.finding.specs.Sought.{Sought}
 use Rattle.numbering.proofs.Laws.{number-few, read_back}
@@ -152,3 +153,9 @@ module _ (s : Sheet) (start size n : ℕ) where
   pub sought_later : (k more : ℕ) (r : Result ClauseId ℕ) → Sought s start size n (Err k) → Sought s (start + size) more k r → Sought s start (size + more) n r
   sought_later k more (Ok q) e h = (omega (arith, h.0), same_number s _ (start + size + k) (start + n) h.1 (omega arith))
   sought_later k more (Err j) e h = omega arith
+
+  -- as code asks: among the first, or else, with what is left of the number, among the second
+  pub sought_else : (more : ℕ) (first r : Result ClauseId ℕ) (asked : ℕ → Type 0) → Sought s start size n first → MatchResult first (λ q. r ≡ Ok q) asked
+      → ((k : ℕ) → asked k → Sought s (start + size) more k r) → Sought s start (size + more) n r
+  sought_else more (Ok q) r asked h m later = subst (Sought s start (size + more) n) (sym m) (sought_first more q h)
+  sought_else more (Err k) r asked h m later = sought_later k more r h (later k m)
