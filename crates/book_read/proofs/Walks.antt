@@ -1,16 +1,26 @@
 -- What a callee's answer says, once it is known. Assumes nothing.
 use mathlib.Core.Path.{◌≡◌, sym, ap, subst, ◌∙◌}
 use mathlib.Core.List.{List}
-use Prim.Native.Nat.{ℕ, ◌≤◌}
+use Prim.Native.Nat.{ℕ, ◌+◌, ◌<◌, ◌≤◌}
 use native.Mathlib.Nat.{add-zero}
 use lib.ListN.{length, get_or, drop}
 use lib.Seq.{get_or-drop}
 use Rattle.std.specs.Prelude.{Option, Some, None, Result, Ok, Err}
 use Rattle.std.specs.Result.{result_ok}
-use Rattle.model.specs.Sheet.{Step, got, fault, rest}
+use Rattle.model.specs.Sheet.{Step, got, fault, rest, byte}
 use Rattle.rows.specs.declared.Fault.{Fault}
 use Rattle.rows.specs.Progress.{number_of, left, HasLanded}
-use Rattle.book_read.specs.Walk.{Came}
+use Rattle.book_read.specs.Walk.{Came, Counted}
+
+module _ {A : Type 0} (b : List ℕ) (s : Step A) {r : Option ℕ} (h : Came b s r) where
+  pub came_at : {e : ℕ} → r ≡ Some e → (rest s ≡ got tt (drop e b)) × (e ≤ length b)
+  came_at t = subst (Came b s) t h
+
+  pub came_stopped : r ≡ None → (n : ℕ) × (rest s ≡ fault n)
+  came_stopped t = subst (Came b s) t h
+
+pub counted_at : {A : Type 0} (b : List ℕ) (s : Step A) (k : ℕ) {r : Option ℕ} {n : ℕ} → Counted b s k r → r ≡ Some n → (rest s ≡ got tt (drop (k + 1) b)) × (k < length b) × (n ≡ byte b k)
+counted_at b s k h t = subst (Counted b s k) t h
 
 -- a row's answer, whatever its fault
 abbrev Passed : {A : Type 0} → List ℕ → Step A → ℕ → Option ℕ → Type 0

@@ -22,13 +22,22 @@ use Rattle.kinds.specs.declared.Census.{Census}
 use Rattle.kinds.proofs.Laws.{counted-few, letter_below, row-counted}
 use Rattle.model.proofs.Templates.{well_formed}
 
--- the clauses of a field, with no place and with some
+-- the clauses of a field with no place, and with some
+module _ (s : Sheet) (f : ℕ) (n : ℕ) (is : n ≡ limit s f) where
+  pub field-none : n ≡ 0 → field_count s f ≡ 0
+  field-none e = ap (λ k. total k (place_count (blank s) k)) (sym is ∙ e) ∙ total-none (place_count (blank s) 0)
+
+  pub field-some : (n ≡ 0 → ⊥) → (l p : ℕ) → l ≡ blank s → p ≡ not_both_count l → n * (2 + p) ≡ field_count s f + 1
+  field-some z l p el ep =
+      ap₂ (λ x y. x * (2 + y)) is (ep ∙ ap not_both_count el) ∙ sym (field-total (blank s) (limit s f) (omega arith))
+
+-- both
 pub field-known : (s : Sheet) (f n l p : ℕ) → n ≡ limit s f → l ≡ blank s → p ≡ not_both_count l → n * (2 + p) - 1 ≡ field_count s f
 field-known s f zero l p is el ep =
-    let none : field_count s f ≡ 0 = ap (λ k. total k (place_count (blank s) k)) (sym is) ∙ total-none (place_count (blank s) 0) in
+    let none : field_count s f ≡ 0 = field-none s f zero is refl in
     omega (arith, none)
 field-known s f (suc n) l p is el ep =
-    let e : suc n * (2 + p) ≡ field_count s f + 1 = ap₂ (λ x y. x * (2 + y)) is (ep ∙ ap not_both_count el) ∙ sym (field-total (blank s) (limit s f) (omega arith)) in
+    let e : suc n * (2 + p) ≡ field_count s f + 1 = field-some s f (suc n) is (λ z. omega arith) l p el ep in
     omega arith
 
 -- The right side of an equation by its bytes: the first are cells, and past them the template is used up.
@@ -63,6 +72,9 @@ module _ (s : Sheet) (ok : InRange s) (p : ℕ) (h : p < length s.equations) whe
   pub bytes_cells : (bytes : List ℕ) (m : ℕ) → bytes ≡ right → m ≡ n → AllCells bytes m
   bytes_cells bytes m eb em = rw (eb, em) right-cells
 
+  pub counted-right : (l : ℕ) (bytes : List ℕ) (m : ℕ) (c : Census) → l ≡ blank s → bytes ≡ right → m ≡ n → Counted l bytes m c → Survey s p c
+  counted-right l bytes m c el eb em d = rw (el, eb, em) at d
+
   -- A census of that side is of few cells, and gives the row with left cell i.
   module _ (c : Census) (d : Survey s p c) where
     pub survey_few : Few c
@@ -81,7 +93,13 @@ pub equation-known : (s : Sheet) (p : ℕ) → equation_count s p ≡ 1 + total 
 unfolding equation_count
 equation-known s p = refl
 
--- the clauses of a constraint, and all
+-- the clauses of a step, of a constraint, and all
+pub step_known : (s : Sheet) (r k n m : ℕ) → n ≡ spread s (constraint s r) k → m ≡ limit s k → (n + 1) * (m + 1) ≡ step_count s r k
+step_known s r k n m en em =
+    let a : n + 1 ≡ suc (spread s (constraint s r) k) = omega arith in
+    let b : m + 1 ≡ suc (limit s k) = omega arith in
+    ap₂ ◌*◌ a b
+
 pub constraint-known : (s : Sheet) (r : ℕ) → constraint_count s r
     ≡ 1 + (total (fields s) (step_count s r) + (suc (spread s (constraint s r) (fields s)) - within s (constraint s r)))
 unfolding constraint_count

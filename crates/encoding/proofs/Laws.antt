@@ -10,6 +10,9 @@ use Rattle.formula.specs.Dimacs.{problem_line, line}
 use Rattle.model.proofs.Lists.{at}
 use Rattle.formula.proofs.Named.{ids_in}
 use Rattle.formula.proofs.Lines.{problem_short}
+use Rattle.dimacs.specs.Codes.{codes_line}
+use Rattle.codes.specs.Nine.{nine}
+use Rattle.literals.proofs.Laws.{nine-line}
 use Rattle.std.specs.Prelude.{Result, Ok, Err, Some}
 use Rattle.std.specs.Result.{result_ok}
 use Rattle.literals.specs.declared.ClauseId.{ClauseId}
@@ -22,6 +25,11 @@ first_fits v c room few many h = omega (arith, problem_short v c few many)
 pub later-line : (s : Sheet) (n : ℕ) → line_of s (id_at s n) ≡ line s (suc n)
 unfolding line
 later-line s n = refl
+
+-- the same of its nine codes
+pub later-codes : (s : Sheet) (n : ℕ) → codes_line (nine s (id_at s n)) ≡ line s (suc n)
+unfolding line
+later-codes s n = nine-line s (id_at s n)
 
 -- the clause that is found
 pub told : (s : Sheet) (n : ℕ) (r : Result ClauseId ℕ) (q : ClauseId) → Some q ≡ result_ok r → Sought s 0 (length (ids s)) n r

@@ -20,7 +20,7 @@ use Rattle.model.proofs.Lists.{by_test, at, each_append}
 use Rattle.model.proofs.Rests.{found}
 use Rattle.model.proofs.Known.{accepted_in_range}
 use Rattle.model.proofs.Places.{holds_at_lem, holds_next}
-use Rattle.model.proofs.Seams.{length_snoc, lend_tail}
+use Rattle.model.proofs.Seams.{store_next, length_seam, length_snoc, lend_tail}
 use Rattle.model.proofs.Fillings.{filling_exact, filling-sized, text-short, text-there}
 use Rattle.fields.specs.declared.Field.{Field}
 use Rattle.fields.specs.Memory.{text_of, texts_of, field, Whole, meaning, Held, firsts, field_bytes, field_at, loaded}
@@ -43,6 +43,20 @@ pub length_memory : (n : ℕ) (g : List Field) → length (memory_bytes n g) ≡
 unfolding memory_bytes
 length_memory zero g = refl
 length_memory (suc n) g = let a = length-field (field g n) in let b = length_memory n g in simp length-append (omega arith)
+
+pub firsts_more : (n : ℕ) (xs : List ℕ) → firsts (n + 1) xs ≡ firsts n xs ++ (get_or xs n 0 ∷ [])
+unfolding firsts
+firsts_more n xs = rw add-one
+
+-- `store_field`: a length and k letters stand at the front of d, and one letter more is stored
+length_front : (a k : ℕ) (l : List ℕ) → length (a ∷ firsts k l) ≡ k + 1
+length_front a k l = ap suc (length-firsts k l) ∙ omega arith
+
+pub letters-length : (a k : ℕ) (d l : List ℕ) → k < length d → length ((a ∷ firsts k l) ++ drop (k + 1) d) ≡ length d
+letters-length a k d l h = length_seam (a ∷ firsts k l) d (k + 1) (length_front a k l) (omega arith)
+
+pub letter_turn : (a k : ℕ) (d l : List ℕ) → k + 1 < length d → set ((a ∷ firsts k l) ++ drop (k + 1) d) (k + 1) (get_or l k 0) ≡ (a ∷ firsts (k + 1) l) ++ drop (k + 1 + 1) d
+letter_turn a k d l h = rw firsts_more (store_next (a ∷ firsts k l) d (k + 1) (get_or l k 0) (length_front a k l) h)
 
 memory_more : (n : ℕ) (g : List Field) → memory_bytes (n + 1) g ≡ memory_bytes n g ++ field_bytes (field g n)
 unfolding memory_bytes

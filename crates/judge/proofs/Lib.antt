@@ -1,2 +1,3 @@
 pub mod Weights
 pub mod Asks
+pub mod Solved

@@ -85,6 +85,7 @@ pub fn judge(sheet: &[u8], g: Substitution) -> Judgement
 }
 
 // Whether the substitution solves the sheet.
+#[tactic(auto, using(crate::proofs::Solved::solved))]
 pub fn solves(sheet: &[u8], g: Substitution) -> bool
     requires { Held sheet.now g }
     ensures { result ≡ model.solves (sheet_of sheet.now) (meaning sheet.now g) }

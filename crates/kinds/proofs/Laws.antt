@@ -1,20 +1,37 @@
 -- The census of a side, cell by cell, and that by it a row has the clauses of its locations. Assumes nothing.
-use mathlib.Core.Path.{◌≡◌, refl, sym, ap, ◌∙◌}
+use mathlib.Core.Path.{◌≡◌, refl, sym, ap, subst, ◌∙◌}
 use mathlib.Core.List.{List}
-use Prim.Native.Nat.{ℕ, zero, suc, ◌+◌, ◌*◌, ◌<◌, ◌≤◌}
+use Prim.Native.Nat.{ℕ, zero, suc, ◌+◌, ◌-◌, ◌*◌, ◌<◌, ◌≤◌}
 use native.Mathlib.Nat.{add-mul}
 use native.Mathlib.Omega.{arith}
 use lib.Dec.{ltb, eqb}
-use lib.ListN.{get_or, replicate, get_or-replicate}
-use borrow.Author.Tests.{ltb-true}
+use lib.ListN.{length, get_or, set, replicate, get_or-replicate}
+use lib.Seq.{get_or-set_same, get_or-set_other}
+use borrow.Author.Tests.{ltb-true, eqb-true, eqb-false}
 use Rattle.model.specs.Lists.{total}
-use Rattle.formula.specs.Kind.{Side, used, at_letter, at_field, SideIn}
+use Rattle.formula.specs.Kind.{Side, used, at_letter, at_field, SideIn, field_then_letter, kind_count}
 use Rattle.formula.specs.Count.{location_count}
 use Rattle.shape.specs.Bytes.{side_of}
-use Rattle.kinds.specs.Census.{as_letter, as_place, as_this, own_of, Few, Added, AllCells, Counted, row_of}
+use Rattle.kinds.specs.Census.{as_letter, as_place, as_this, own_of, times_of, Few, Added, AllCells, Counted, row_of}
 use Rattle.kinds.specs.declared.Census.{Census}
 use Rattle.model.proofs.Lists.{by_test}
 use Rattle.model.proofs.Keeping.{total-more, total-none, total_grows}
+use Rattle.shape.proofs.Sides.{says_letter, says_field}
+
+-- A row with a letter on the left is small.
+pub letter-small : (same letters places x y z w : ℕ) → same ≤ letters → letters + places ≤ 24
+    → x ≡ same * 1 → y ≡ (letters - same) * 2 → z ≡ places * 3 → w ≡ 1 * 1 → x + y + z + w ≤ 275
+letter-small same letters places x y z w h k ex ey ez ew = omega arith
+
+-- One number of a list is one more.
+pub set_more : (xs : List ℕ) (a : ℕ) → a < length xs → (b : ℕ) → get_or (set xs a (get_or xs a 0 + 1)) b 0 ≡ get_or xs b 0 + as_this b (at_letter a)
+set_more xs a h b = by_test (eqb b a)
+    (λ e.
+    let q = eqb-true b a e in
+    rw e (ap (λ i. get_or (set xs a (get_or xs a 0 + 1)) i 0) q ∙ get_or-set_same xs a (get_or xs a 0 + 1) 0 h ∙ ap (λ i. get_or xs i 0 + 1) (sym q)))
+    (λ e.
+    let none : get_or xs b 0 ≡ get_or xs b 0 + 0 = omega arith in
+    rw e (get_or-set_other xs a b (get_or xs a 0 + 1) 0 (eqb-false b a e) ∙ none))
 
 -- the letter that a byte says is below 8
 pub letter_below : (u : ℕ) → SideIn 8 (side_of u)
@@ -89,6 +106,26 @@ module _ (v : ℕ → Side) where
   open_cells l (suc n) h =
       let places : ℕ = total n (λ j. as_place (v j)) in
       omega (arith, open_cells l n (λ j k. h j (omega arith)), open_cell l (v n) (h n (omega arith)), add-mul places (as_place (v n)) (l + 3))
+
+-- The census with a letter more, and with a place more.
+module _ (l x : ℕ) (c : Census) where
+  pub letter_added : (a own : ℕ) (times : List ℕ) → x < 8 → a ≡ x → own ≡ kind_count l field_then_letter
+      → ((b : ℕ) → get_or times b 0 ≡ times_of c b + as_this b (at_letter a))
+      → Added l (side_of x) c (record { letters = c.letters + 1; places = c.places; own = c.own + own; times = times })
+  letter_added a own times h e q f =
+      subst (λ v. Added l v c (record { letters = c.letters + 1; places = c.places; own = c.own + own; times = times })) (sym (says_letter x h))
+      (record {
+        letters = refl;
+        places = omega arith;
+        own = ap (λ z. c.own + z) q;
+        times = λ b _. f b ∙ ap (λ z. times_of c b + as_this b (at_letter z)) e;
+      })
+
+  pub place_added : 8 ≤ x → (x ≡ 255 → ⊥)
+      → Added l (side_of x) c (record { letters = c.letters; places = c.places + 1; own = c.own; times = c.times })
+  place_added h n =
+      subst (λ v. Added l v c (record { letters = c.letters; places = c.places + 1; own = c.own; times = c.times })) (sym (says_field x h n))
+      (record { letters = omega arith; places = refl; own = omega arith; times = λ b _. omega arith })
 
 -- The census of no cell, and of one more.
 module _ (l : ℕ) (right : List ℕ) where

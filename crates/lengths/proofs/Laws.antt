@@ -23,7 +23,15 @@ module _ (try : List ℕ → Option (List Field)) where
   pub nothing : (C : List ℕ → Type 0) (O : List ℕ → List ℕ → Type 0) (r : Option (List Field)) → IsNone r → ((m : List ℕ) → C m → IsNone (try m)) → First try C O r
   nothing C O r e none = record { hit = λ t. never (sym e ∙ t); miss = λ t m c. none m c }
 
-  -- what `boxes` finds, of all totals
+  -- what `boxes` finds, of one total and of all
+  pub any_found : (lo hi : List ℕ) (t : ℕ) (shortest : Bool) (r : Best) → Seeks try lo hi t (t + 1) shortest r → First try (Box lo hi t t) (Order false) r.found
+  any_found lo hi t shortest r f = record {
+    hit = λ e.
+        let a = f.answered e in
+        record { vector = a.vector; inside = (a.inside, a.totals.0, omega (arith, a.totals.1)); is = a.is; first = λ m c o. absurd o };
+    miss = λ e m c. let u = f.missed e in f.none m c.0 c.1 (omega (arith, c.2));
+  }
+
   module _ (lo hi : List ℕ) (u : ℕ) (all : u ≡ sum_of hi + 1) (shortest : Bool) (r : Best) (f : Seeks try lo hi 0 u shortest r) where
     none_found : IsNone r.found → (m : List ℕ) → Within lo hi m → IsNone (try m)
     none_found e m c = let q = f.missed e in let high = sum_grows m hi (λ f h. (c f h).1) in f.none m c (omega arith) (omega arith)

@@ -1,16 +1,16 @@
 -- The refusals of a text, one for each way that `read` returns. Assumes nothing.
-use mathlib.Core.Path.{◌≡◌, sym, ap, subst, ◌∙◌}
+use mathlib.Core.Path.{◌≡◌, refl, sym, ap, subst, ◌∙◌}
 use mathlib.Core.Bool.{true, false, not, ◌&&◌}
-use mathlib.Core.List.{List}
-use Prim.Native.Nat.{ℕ, suc, ◌-◌, ◌<◌}
+use mathlib.Core.List.{List, [], ◌∷◌}
+use Prim.Native.Nat.{ℕ, suc, ◌-◌, ◌<◌, ◌≤◌}
 use native.Mathlib.Omega.{arith}
 use lib.Dec.{eqb}
-use lib.ListN.{get_or, replicate}
-use borrow.Author.Tests.{ne_eqb}
+use lib.ListN.{length, get_or, replicate}
+use borrow.Author.Tests.{eq-eqb, ne_eqb}
 use Rattle.model.specs.Lists.{all}
 use Rattle.calls.specs.Reply.{lines, line_ended, known, given, given_once}
 use Rattle.calls.specs.Calls.{Answer, require, formed}
-use Rattle.model.proofs.Lists.{by_test}
+use Rattle.model.proofs.Lists.{by_test, or_right}
 use Rattle.tally.specs.declared.Tally.{Tally}
 use Rattle.std.specs.Prelude.{Some, None, Ok, Err}
 use Rattle.tally.specs.Tally.{nothing, is_marked, after_lines, ReadLines}
@@ -18,11 +18,28 @@ use Rattle.listing.specs.declared.Fault.TheVariants.{End, Line, Status, Closing,
 use Rattle.listing.specs.Answer.{Form}
 use Rattle.listing.proofs.Meaning.{Means, means}
 
--- The text's end, and its lines.
+-- The text's end.
+pub ended_empty : (t : List ℕ) → length t ≤ 0 → line_ended t ≡ true
+unfolding line_ended
+ended_empty [] h = refl
+ended_empty (x ∷ t) h = absurd (omega arith)
+
+pub ended_last : (t : List ℕ) → get_or t (length t - 1) 0 ≡ 10 → line_ended t ≡ true
+unfolding line_ended
+ended_last t e = or_right (eqb (length t) 0) (eq-eqb (get_or t (length t - 1) 0) 10 e)
+
+pub ended_not : (t : List ℕ) → 0 < length t → (get_or t (length t - 1) 0 ≡ 10 → ⊥) → line_ended t ≡ false
+unfolding line_ended
+ended_not t h f = rw (ne_eqb (length t) 0 (λ e. omega arith), ne_eqb (get_or t (length t - 1) 0) 10 f)
+
 pub form_end : (n : ℕ) (t m : List ℕ) → line_ended t ≡ false → Form n t (Err End) m
 unfolding formed
 form_end n t m e go = rw e
 
+pub form_last : (n : ℕ) (t m : List ℕ) → 0 < length t → (get_or t (length t - 1) 0 ≡ 10 → ⊥) → Form n t (Err End) m
+form_last n t m h f = form_end n t m (ended_not t h f)
+
+-- Its lines.
 pub form_line : (n : ℕ) (t m m' : List ℕ) → line_ended t ≡ true → ReadLines m t None m' → Form n t (Err Line) m'
 unfolding formed
 form_line n t m m' e r go = rw (e, r)

@@ -1,21 +1,24 @@
 -- Searching through parts by their sizes; the clauses of a location as the code has them. Assumes nothing.
 use mathlib.Core.Path.{◌≡◌, refl, sym, ap, ap₂, subst, ◌∙◌}
-use mathlib.Core.List.{List, ◌++◌, map}
+use mathlib.Core.List.{List, [], ◌∷◌, ◌++◌, map}
 use Prim.Native.Nat.{ℕ, suc, ◌+◌, ◌-◌, ◌<◌, ◌≤◌}
 use native.Mathlib.Omega.{arith}
+use lib.Dec.{eqb}
 use lib.ListN.{length, get_or}
-use Rattle.model.specs.Lists.{from, up_to, total}
+use borrow.Author.Tests.{eqb-true, eqb-false}
+use Rattle.model.specs.Lists.{pick, from, up_to, total}
 use Rattle.model.specs.Sheet.{Sheet}
 use Rattle.model.specs.Range.{InRange}
-use Rattle.formula.specs.Clause.{ClauseId, Start, Match, id_at, blank, left_cells, right_cells, none}
-use Rattle.formula.specs.Kind.{Side, at_letter, at_field, SideIn, side}
+use Rattle.formula.specs.Clause.{ClauseId, Start, Left, Both, Match, id_at, blank, left_cells, right_cells, none}
+use Rattle.formula.specs.Kind.{Side, used, at_letter, at_field, SideIn, side}
 use Rattle.formula.specs.Count.{standing, location_count, location_size, row_count, equation_start}
+use Rattle.model.proofs.Lists.{by_test}
 use Rattle.model.proofs.Keeping.{length-map-from, map-from-at, map-append, first-at, second_at, total-more, total-none}
 use Rattle.formula.proofs.Small.{cells-small}
 use Rattle.formula.proofs.Standing.{sides_in}
 use Rattle.formula.proofs.Finding.{start-at, location_at}
 use Rattle.shape.specs.Bytes.{side_bytes, side_of}
-use Rattle.shape.proofs.Sides.{side-at}
+use Rattle.shape.proofs.Sides.{side-at, says_field}
 use Rattle.model.proofs.Templates.{well_formed}
 
 -- A search for number n through parts of sizes h: before the first part, past part i, and past the last part, where no number is.
@@ -41,8 +44,38 @@ module _ (l p i j : ℕ) (x y : Side) (n : ℕ) (inside : n < location_count l x
       let few = subst (λ t. n < location_count l a t) ey (subst (λ t. n < location_count l t y) ex inside) in
       h few ∙ sym (ap₂ (λ s t. get_or (standing l p i j s t) n none) ex ey)
 
--- The clauses of a location that are not at a fixed place of the table: the clauses E of a field's place against a letter and against another place.
+  -- by its number
+  pub found_at : (a b : Side) → x ≡ a → y ≡ b → (k : ℕ) → (n < location_count l a b → n ≡ k)
+      → get_or (standing l p i j a b) k none ≡ get_or (standing l p i j x y) n none
+  found_at a b ex ey k h = found a b ex ey _ (λ few. ap (λ m. get_or (standing l p i j a b) m none) (sym (h few)))
+
+-- no clause where both sides are used up
+pub right-field : (l u v n : ℕ) → n < location_count l (side_of u) (side_of v) → side_of u ≡ used → 8 ≤ v → side_of v ≡ at_field
+right-field l u v n inside eu h = by_test (eqb v 255)
+    (λ e.
+    let k = subst (λ x. n < location_count l x (side_of v)) eu inside in
+    let m : n < 0 = subst (λ y. n < location_count l used (side_of y)) (eqb-true v 255 e) k in
+    absurd (omega arith))
+    (λ e. says_field v h (eqb-false v 255 e))
+
+-- The clauses of a location that are not at a fixed place of the table: with a field's place on the left, B comes first.
 module _ (l p i j n : ℕ) where
+  pub left-first : (b : Side) → n ≡ 0 → Left p i j ≡ get_or (standing l p i j at_field b) n none
+  left-first used z = rw z
+  left-first (at_letter b) z = rw z
+  left-first at_field z = rw z
+
+  -- the clauses E: of a letter against another, and of a field's place against a letter and against another place
+  pub letters_differ : (a b : ℕ) → (n ≡ 0 → ⊥) → n < location_count l (at_letter a) (at_letter b)
+      → Match p i j a ≡ get_or (standing l p i j (at_letter a) (at_letter b)) n none
+  letters_differ a b z h = by_test (eqb a b)
+      (λ e. absurd (omega (arith, rw e at h)))
+      (λ e.
+      let k = rw e at h in
+      let one : 1 ≡ n = omega arith in
+      ap (λ m. get_or (Both p i j ∷ Match p i j a ∷ []) m none) one
+      ∙ ap (λ t. get_or (Both p i j ∷ pick t [] (Match p i j a ∷ [])) n none) (sym e))
+
   module _ (b : ℕ) (more : 2 ≤ n) where
     abbrev before : List ClauseId
     before = map (Match p i j) (up_to b)

@@ -16,7 +16,7 @@ use Rattle.model.specs.Word.{Legal}
 use Rattle.formula.specs.Clause.{K, blank, fields}
 use Rattle.formula.specs.Numbering.{variables, number}
 use Rattle.formula.specs.Assignment.{Assignment, truth, up_to_blank, held, true_values, spelled}
-use Rattle.calls.specs.Reply.{blanks_last}
+use Rattle.calls.specs.Reply.{all_single, blanks_last, none_after_blank}
 use Rattle.model.proofs.Lists.{by_test, from_at}
 use Rattle.model.proofs.Keeping.{all_below, all_not, keep-yes, keep-no, length-map-from, map_next}
 use Rattle.model.proofs.Seams.{store_next, drop-replicate}
@@ -111,6 +111,21 @@ counted-all s marks f c l a count least el ea h =
     let e : onward (is_true s marks f c) (suc l) a ≡ true_values s (truth marks) f c =
     ap (λ k. keep (is_true s marks f c) (from a k)) n ∙ ap (λ k. keep (is_true s marks f c) (from k (suc (blank s)))) ea in
     (h.counts ∙ ap length e, h.is_least ∙ ap (λ (xs : List ℕ). get_or xs 0 l) e ∙ ap (λ k. get_or (true_values s (truth marks) f c) 0 k) el, omega arith)
+
+-- a test of all fields is one of each
+pub single_all : (s : Sheet) (w : Assignment) → all_single s w ≡ all (λ f. all (λ c. eqb (length (true_values s w f c)) 1) (up_to (limit s f))) (up_to (fields s))
+unfolding all_single
+single_all s w = refl
+
+pub blanks_all : (s : Sheet) (w : Assignment) → none_after_blank s w ≡ all (λ f. blanks_last (blank s) (map (held s w f) (up_to (limit s f)))) (up_to (fields s))
+unfolding none_after_blank
+blanks_all s w = refl
+
+-- what passes from f on up to n, and at the one before, passes from that on
+pub from_less : (p : ℕ → Bool) (f n : ℕ) → ((i : ℕ) → f ≤ i → i < n → p i ≡ true) → p (f - 1) ≡ true → (i : ℕ) → f - 1 ≤ i → i < n → p i ≡ true
+from_less p f n h e i low high = by_test (eqb (f - 1) i)
+    (λ t. subst (λ k. p k ≡ true) (eqb-true (f - 1) i t) e)
+    (λ t. let m : f - 1 < i = lt_of_le-ne low (eqb-false (f - 1) i t) in h i (omega arith) high)
 
 -- `every`: what it answers of tests from 0 up to n
 pub every_is : (p : ℕ → Bool) (n : ℕ) (r : Bool) → (r ≡ true → (i : ℕ) → i < n → p i ≡ true) → (r ≡ false → (i : ℕ) × (i < n) × (p i ≡ false)) → r ≡ all p (up_to n)

@@ -4,6 +4,7 @@ use mathlib.Core.List.{List, [], ◌∷◌, ◌++◌, map}
 use Prim.Native.Nat.{ℕ, ◌+◌, ◌-◌, ◌*◌, ◌<◌, ◌≤◌}
 use native.Mathlib.Omega.{arith}
 use lib.ListN.{length, get_or, take, drop, replicate, length-append, length-map, get_or-map}
+use lib.Seq.{take_all}
 use borrow.Author.Tests.{lt-ltb, le-ltb}
 use Rattle.model.specs.Lists.{All, each, up_to, Puts}
 use Rattle.model.specs.Sheet.{Sheet, symbol_of, symbol_byte, limit, sheet_of, template}
@@ -44,6 +45,9 @@ taken s t i = map cell_byte (cells s (take i (map symbol_of t)))
 pub taken_none : (s : Sheet) (t : List ℕ) → taken s t 0 ≡ []
 unfolding cells each
 taken_none s t = refl
+
+pub taken-all : (s : Sheet) (t : List ℕ) (i : ℕ) → length t ≤ i → taken s t i ≡ map cell_byte (cells s (map symbol_of t))
+taken-all s t i h = ap (λ u. map cell_byte (cells s u)) (take_all i (map symbol_of t) (omega (arith, length-map t symbol_of)))
 
 module _ (s : Sheet) (t : List ℕ) (i : ℕ) (more : i < length t) where
   cells-more : cells s (take (i + 1) (map symbol_of t)) ≡ cells s (take i (map symbol_of t)) ++ symbol_cells s (symbol_of (get_or t i 0))

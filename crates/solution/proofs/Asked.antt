@@ -41,7 +41,7 @@ module _ (b : List ℕ) (ok : Admitted b) (a : Ask) (whole : Whole (sheet_of b) 
   constraints-asked : asked a.constraints s.constraints ≡ s.constraints
   constraints-asked = ap (λ ms. asked ms s.constraints) whole.all_constraints ∙ asked-all s.constraints ok.1.counts_in.of_constraints
 
-  solves_answers : (g : Substitution) → Solves s g → Answers s a g
+  pub solves_answers : (g : Substitution) → Solves s g → Answers s a g
   solves_answers g h = record {
     is_legal = h.is_legal;
     within = λ f k. let none = whole.from_none f k in let most = whole.to_limits f k in let size = text_size b ok g h.is_legal f k in (omega arith, omega arith);
@@ -49,7 +49,7 @@ module _ (b : List ℕ) (ok : Admitted b) (a : Ask) (whole : Whole (sheet_of b) 
     constraints_hold = subst (All (ConstraintHolds s g)) (sym constraints-asked) h.constraints_hold;
   }
 
-  answers_solve : (g : Substitution) → Answers s a g → Solves s g
+  pub answers_solve : (g : Substitution) → Answers s a g → Solves s g
   answers_solve g h = record {
     is_legal = h.is_legal;
     equations_hold = subst (All (EquationHolds s g)) equations-asked h.equations_hold;

@@ -9,14 +9,14 @@ use lib.ListN.{get_or, take, drop}
 use borrow.Author.Tests.{le-leb, lt-leb}
 use Rattle.model.specs.Sheet.{template_byte, row, symbol_of, width}
 use Rattle.book.proofs.Rests.{symbols-none, symbols_stop, symbols-wide, symbols-left}
+use Rattle.scan.proofs.Words.{part-is}
 use Rattle.book_read.proofs.Walks.{row_read, row_stops, first-left}
 use Rattle.book_read.proofs.symbols.Goals as goal
 
 -- the width of the n symbols from an offset on, which end at another
 measured : (limits b : List ℕ) (k n e w : ℕ) (t : Bool) → e ≡ k + n → w ≡ width limits (map symbol_of (take (e - k) (drop k b))) → leb w 24 ≡ t → leb (width limits (map symbol_of (take n (drop k b)))) 24 ≡ t
 measured limits b k n e w t at is h =
-    let size : n ≡ e - k = omega arith in
-    ap (λ m. leb (width limits (map symbol_of (take m (drop k b)))) 24) size ∙ ap (λ m. leb m 24) (sym is) ∙ h
+    ap (λ xs. leb (width limits (map symbol_of xs)) 24) (sym (part-is b k n e at)) ∙ ap (λ m. leb m 24) (sym is) ∙ h
 
 pub returns-in_err-count : goal.returns-in_err-count
 returns-in_err-count c =

@@ -1,12 +1,11 @@
 -- `parts::coefficient` meets its contract: the signed byte that stands there. Assumes nothing.
-use mathlib.Core.Path.{refl, ◌∙◌}
+use mathlib.Core.Path.{◌∙◌}
 use Prim.Native.Nat.{◌+◌}
 use native.Mathlib.Omega.{arith}
 use lib.ListN.{length, get_or}
-use mir.Syntax.{w8}
 use Rattle.model.specs.Sheet.{sheet_of, constraint}
 use Rattle.model.proofs.Places.{ConstraintAt, constraint_in, constraint-at}
-use Rattle.scan.proofs.Words.{signed-read}
+use Rattle.scan.proofs.Words.{signed_one}
 use Rattle.parts.proofs.Known.{lent_bytes}
 use Rattle.parts.proofs.coefficient.Goals as goal
 use Rattle.parts.proofs.coefficient.Lts as lts
@@ -30,5 +29,5 @@ pub returns : goal.returns
 returns c =
     let k = c.constraint_at-at.result + c.args.f in
     rw c.cast_signed.ensures
-    (signed-read w8 128 (get_or c.args.sheet.now k 0) refl refl (omega (arith, c.shared_slice_known-2-1.given k))
+    (signed_one (get_or c.args.sheet.now k 0) (omega (arith, c.shared_slice_known-2-1.given k))
     ∙ (there c.before.before.before).coefficient_at c.args.f c.requires.2)

@@ -1,12 +1,11 @@
 -- `parts::most` meets its contract: the two signed bytes that stand after the coefficients. Assumes nothing.
-use mathlib.Core.Path.{◌≡◌, refl, ap, ◌∙◌}
+use mathlib.Core.Path.{◌≡◌, ap, ◌∙◌}
 use Prim.Native.Nat.{◌+◌}
 use native.Mathlib.Omega.{arith}
 use lib.ListN.{length, get_or}
-use mir.Syntax.{w16}
-use Rattle.model.specs.Sheet.{sheet_of, constraint, sixteen, signed16}
+use Rattle.model.specs.Sheet.{sheet_of, constraint, signed16}
 use Rattle.model.proofs.Places.{field-count-at, ConstraintAt, constraint_in, constraint-at}
-use Rattle.scan.proofs.Words.{signed-read}
+use Rattle.scan.proofs.Words.{signed_two}
 use Rattle.parts.proofs.Known.{lent_bytes, header-there}
 use Rattle.parts.proofs.most.Goals as goal
 use Rattle.parts.proofs.most.Lts as lts
@@ -52,6 +51,6 @@ returns c =
     let k = first + c.from-fields.result in
     let bytes = c.shared_slice_known-4-1.given in
     rw c.from_be_bytes.ensures
-    (signed-read w16 32768 (sixteen (get_or b k 0) (get_or b (k + 1) 0)) refl refl (omega (arith, bytes k, bytes (k + 1)))
+    (signed_two (get_or b k 0) (get_or b (k + 1) 0) (omega (arith, bytes k)) (omega (arith, bytes (k + 1)))
     ∙ ap (λ m. signed16 (get_or b (first + m) 0) (get_or b (first + m + 1) 0)) (fields c.before.before.before.before.before)
     ∙ (there c.before.before.before.before).most_at)

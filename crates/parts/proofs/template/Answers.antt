@@ -1,13 +1,14 @@
 -- `parts::template` meets its contract: the two templates stand after the equation's two counts. Assumes nothing.
-use mathlib.Core.Path.{◌≡◌, ap, ◌∙◌}
+use mathlib.Core.Path.{◌≡◌, refl, ap, ◌∙◌}
 use mathlib.Core.List.{List, map, ◌++◌}
-use Prim.Native.Nat.{ℕ, ◌+◌, ◌-◌, ◌<◌}
+use Prim.Native.Nat.{ℕ, ◌+◌, ◌<◌}
 use native.Mathlib.Omega.{arith}
 use lib.ListN.{length, length-map, take, drop}
 use borrow.Author.Tests.{eq-eqb, ne_eqb}
 use Rattle.model.specs.Lists.{each, Holds}
 use Rattle.model.specs.Sheet.{symbol_byte, sheet_of, encode_equation, encode_constraint, equation}
 use Rattle.model.proofs.Places.{EquationAt, this_equation, holds-take}
+use Rattle.scan.proofs.Words.{part-is}
 use Rattle.parts.proofs.template.Goals as goal
 
 -- the equation at the offset
@@ -32,9 +33,10 @@ returns-then-side-eq0 c =
     let t = this c.args.sheet.now c.args.p c.entry_at-at.result c.requires.1 c.entry_at-at.ensures in
     let left = (equation (sheet_of a.sheet.now) a.p).left in
     let at = c.entry_at-at.result in
-    let size : at + 2 + c.from-left.result - (at + 2) ≡ length (map symbol_byte left) = omega (arith, c.from-left.ensures, t.left_count, length-map left symbol_byte) in
+    let size : c.from-left.result ≡ length (map symbol_byte left) = omega (arith, c.from-left.ensures, t.left_count, length-map left symbol_byte) in
     rw (eq-eqb a.side 0 c.if-side-eq0.true)
-    (ap (λ n. take n (drop (at + 2) a.sheet.now)) size ∙ holds-take (map symbol_byte left) t.holds_left)
+    (part-is a.sheet.now (at + 2) c.from-left.result (at + 2 + c.from-left.result) refl
+    ∙ ap (λ n. take n (drop (at + 2) a.sheet.now)) size ∙ holds-take (map symbol_byte left) t.holds_left)
 
 pub returns-else-side-eq0 : goal.returns-else-side-eq0
 returns-else-side-eq0 c =
@@ -42,9 +44,10 @@ returns-else-side-eq0 c =
     let t = this c.args.sheet.now c.args.p c.entry_at-at.result c.requires.1 c.entry_at-at.ensures in
     let e = equation (sheet_of a.sheet.now) a.p in
     let at = c.entry_at-at.result in
-    let size : at + 2 + c.from-left.result + c.from-right.result - (at + 2 + c.from-left.result) ≡ length (map symbol_byte e.right) = omega (arith, c.from-right.ensures, t.right_count, length-map e.right symbol_byte) in
+    let size : c.from-right.result ≡ length (map symbol_byte e.right) = omega (arith, c.from-right.ensures, t.right_count, length-map e.right symbol_byte) in
     let from : at + 2 + c.from-left.result ≡ at + 2 + length e.left = omega (arith, c.from-left.ensures, t.left_count) in
     rw (ne_eqb a.side 0 c.if-side-eq0.false)
-    (ap (λ n. take n (drop (at + 2 + c.from-left.result) a.sheet.now)) size
+    (part-is a.sheet.now (at + 2 + c.from-left.result) c.from-right.result (at + 2 + c.from-left.result + c.from-right.result) refl
+    ∙ ap (λ n. take n (drop (at + 2 + c.from-left.result) a.sheet.now)) size
     ∙ ap (λ k. take (length (map symbol_byte e.right)) (drop k a.sheet.now)) from
     ∙ holds-take (map symbol_byte e.right) t.holds_right)

@@ -19,6 +19,3 @@ pub returns-in_err-admit : goal.returns-in_err-admit
 returns-in_err-admit c =
     let told = err_from_is_err_and c.from_residual.result c.from_residual.ensures.1 in
     rw (told.1, told.2) (sym (filling-refused (filling (sheet_of c.args.sheet.now) c.args.bytes.now) _ _ (sym (c.in_err-admit.ensures {u = tt}))))
-
-pub returns : goal.returns
-returns c = rw (c.load-g.ensures.1, ← c.judge.ensures)
