@@ -65,20 +65,20 @@ along P k (u ∷ a) (v ∷ b) g =
     (record { present = eqb-false _ _ m; closed = eqb-false _ _ q })
     (along P k a b))))))
 
+-- What a walk tells where it stops, failed or not.
+pub told_stop : (P : Reached → Type 0) (t : Bool) {a b : List ℕ} {g : List Field} → P (at_cells a b g) → P (either (reached t a b g))
+told_stop P true h = h
+told_stop P false h = h
+
 -- What a walk answers where it has not failed: where it stops, or what it answers with what was unified.
 pub at_stop : (P : Reached → Type 0) (t : Bool) {a b : List ℕ} {g : List Field} → P (at_cells a b g) → (w : Reached) → reached t a b g ≡ Ok w → P w
-at_stop P true h w e = subst P (same_ok _ _ e) h
-at_stop P false h w e = err-ok w _ e
+at_stop P t h = of_ok P (reached t _ _ _) (told_stop P t h)
 
 pub at_onward : (P : Reached → Type 0) (r : Result (List Field) (List Field)) {go : List Field → Result Reached Reached} (x : Reached) → ((h : List Field) → r ≡ Ok h → (w : Reached) → go h ≡ Ok w → P w) → (w : Reached) → onward r go (Err x) ≡ Ok w → P w
 at_onward P (Err h) x f w e = err-ok w _ e
 at_onward P (Ok h) x f w e = f h refl w e
 
--- What it tells, failed or not.
-pub told_stop : (P : Reached → Type 0) (t : Bool) {a b : List ℕ} {g : List Field} → P (at_cells a b g) → P (either (reached t a b g))
-told_stop P true h = h
-told_stop P false h = h
-
+-- What it tells with what was unified, failed or not.
 pub told_onward : (P : Reached → Type 0) (r : Result (List Field) (List Field)) (go : List Field → Result Reached Reached) (stop : Result Reached Reached) → ((h : List Field) → r ≡ Ok h → P (either (go h))) → P (either stop) → P (either (onward r go stop))
 told_onward P (Err h) go stop f s = s
 told_onward P (Ok h) go stop f s = f h refl
