@@ -59,6 +59,7 @@ fn clause_counts(sheet: &[u8]) -> ClauseCounts
 }
 
 // Counts a sheet's variables, clauses and its clause file's bytes: the three counts, or the sheet's refusal. Any bytes are allowed.
+#[tactic(auto, using(crate::proofs::Refused::count_refused, crate::proofs::Refused::count_accepted))]
 pub fn count(sheet: &[u8]) -> Result<ClauseCounts, sheet::Refusal>
     ensures { counted result ≡ counting sheet.now }
 {

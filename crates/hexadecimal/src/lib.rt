@@ -2,12 +2,14 @@
 // and the next begins, and which bytes it gives.
 #![tactic(auto)]
 
-ghost use Rattle.std.specs.Prelude.{◌≡◌, ◌<◌, ◌≤◌, IfSome, length, take};
+ghost use Rattle.std.specs.Prelude.{◌≡◌, ◌+◌, ◌<◌, ◌≤◌, IfSome, length, min, take, drop};
+ghost use Rattle.model.specs.Lists.{span};
 
 // The index of the first `x` at or after `from`, or the length of `text` where there is none. The
 // last clause follows from the one before it, and is what `&text[..r]` asks of a caller.
 pub fn find(text: &[u8], from: usize, x: u8) -> usize
     requires { from ≤ length text.now }
+    ensures first { result ≡ from + span x (drop from text.now) }
     ensures lower_bound { from ≤ result }
     ensures upper_bound { result ≤ length text.now }
     ensures value { result ≡ length (take result text.now) }
@@ -18,6 +20,7 @@ pub fn find(text: &[u8], from: usize, x: u8) -> usize
 // The index after `at`, but none past the end of `text`.
 pub fn after(text: &[u8], at: usize) -> usize
     requires { at ≤ length text.now }
+    ensures next { result ≡ min (at + 1) (length text.now) }
     ensures lower_bound { at ≤ result }
     ensures upper_bound { result ≤ length text.now }
 {
